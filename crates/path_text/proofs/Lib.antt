@@ -1,0 +1,5 @@
+pub mod FolderLemmas
+pub mod NameLemmas
+pub mod PartLemmas
+pub mod PathLemmas
+pub mod TargetLemmas

@@ -1,0 +1,4 @@
+pub mod FileName
+pub mod First
+pub mod Path
+pub mod Target

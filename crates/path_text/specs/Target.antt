@@ -1,0 +1,51 @@
+-- The targets of a directory's items, and what reading one gives.
+use Rattle.std.specs.Prelude.{ℕ, List, [], ◌∷◌, ◌≤◌, ◌≡◌, Bool, true, ◌||◌, nat_lt, not, All, Any, Contains, IsUtf8, Option, Result, Err}
+use Rattle.std.specs.List.{list_any}
+use Rattle.std.specs.Str.{is_utf8}
+use Rattle.path_text.specs.First.{fault_where, first_fault, value_unless}
+use Rattle.path_text.specs.Path.{parts_of, IsNamed, is_idle, is_parent, is_empty, begins_at_root, has_nul}
+use Rattle.path_text.specs.declared.relative.RelFault.{RelFault}
+use Rattle.path_text.specs.declared.relative.RelFault.TheVariants.{Empty, Absolute, HasNul, NotText, BadPart, NoMemory}
+
+-- parts that each name something, without control bytes
+pub record IsTarget (text : List ℕ) : Type 0 where
+  pub named : All IsNamed (parts_of text)
+  pub no_control : All (λ c. 32 ≤ c) text
+  pub utf8 : IsUtf8 text
+
+abbrev pub has_control : List ℕ → Bool
+has_control part = list_any (λ c. nat_lt c 32) part
+
+-- a part that names nothing, or holds a control byte
+abbrev pub is_bad_part : List ℕ → Bool
+is_bad_part part = is_idle part || is_parent part || has_control part
+
+abbrev pub has_bad_part : List ℕ → Bool
+has_bad_part text = list_any is_bad_part (parts_of text)
+
+-- the first fault of a target
+unfoldable pub target_fault : List ℕ → Option RelFault
+target_fault text = first_fault (
+    fault_where (is_empty text) Empty ∷
+    fault_where (begins_at_root text) Absolute ∷
+    fault_where (has_nul text) HasNul ∷
+    fault_where (not (is_utf8 text)) NotText ∷
+    fault_where (has_bad_part text) BadPart ∷ [])
+
+-- the first fault of the text, or else the text
+abbrev pub target_of : List ℕ → Result (List ℕ) RelFault
+target_of text = value_unless (target_fault text) text
+
+-- the answer is the wanted one, unless memory was refused
+abbrev pub IsTargetAnswer : Result (List ℕ) RelFault → Result (List ℕ) RelFault → Type 0
+IsTargetAnswer (Err NoMemory) wanted = Unit {0}
+IsTargetAnswer answer wanted = answer ≡ wanted
+
+-- what a fault says of the text
+abbrev pub IsTargetFault : RelFault → List ℕ → Type 0
+IsTargetFault Empty text = text ≡ []
+IsTargetFault Absolute text = begins_at_root text ≡ true
+IsTargetFault HasNul text = Contains text 0
+IsTargetFault NotText text = ¬ (IsUtf8 text)
+IsTargetFault BadPart text = Any (λ part. is_bad_part part ≡ true) (parts_of text)
+IsTargetFault NoMemory text = Unit {0}
