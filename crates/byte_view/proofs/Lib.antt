@@ -1,0 +1,4 @@
+pub mod Found
+pub mod Loads
+pub mod Backed
+pub mod Ranges

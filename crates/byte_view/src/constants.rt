@@ -1,0 +1,107 @@
+//! The numbers of the standard, under its names.
+//!
+//! System V gABI, ELF Header, Program Header and Dynamic Section; the GNU extensions to them are in
+//! the Linux Standard Base.
+
+/// The index of the file class in `e_ident`.
+pub const EI_CLASS: usize = 4;
+/// The index of the byte order in `e_ident`.
+pub const EI_DATA: usize = 5;
+/// The index of the version in `e_ident`.
+pub const EI_VERSION: usize = 6;
+/// Files of 64-bit words.
+pub const ELFCLASS64: u8 = 2;
+/// The lowest byte of a number first.
+pub const ELFDATA2LSB: u8 = 1;
+/// The one version of the format.
+pub const EV_CURRENT: u8 = 1;
+/// The size of the ELF header.
+pub const EHDR_SIZE: u16 = 64;
+/// The size of a program header.
+pub const PHDR_SIZE: u16 = 56;
+
+/// A program at fixed addresses.
+pub const ET_EXEC: u16 = 2;
+/// A shared object, or a program that runs at any address.
+pub const ET_DYN: u16 = 3;
+/// The x86-64 machine.
+pub const EM_X86_64: u16 = 62;
+/// Says that the number of program headers stands in a section header.
+pub const PN_XNUM: u16 = 65_535;
+
+/// A part of the file that is loaded into memory.
+pub const PT_LOAD: u32 = 1;
+/// The dynamic table.
+pub const PT_DYNAMIC: u32 = 2;
+/// The path of the interpreter.
+pub const PT_INTERP: u32 = 3;
+/// The program headers themselves.
+pub const PT_PHDR: u32 = 6;
+
+/// The segment may be run.
+pub const PF_X: u32 = 1;
+/// The segment may be written.
+pub const PF_W: u32 = 2;
+/// The segment may be read.
+pub const PF_R: u32 = 4;
+
+/// The end of the dynamic table.
+pub const DT_NULL: u64 = 0;
+/// A needed library's name, as a string place.
+pub const DT_NEEDED: u64 = 1;
+/// The address of the symbol hash table.
+pub const DT_HASH: u64 = 4;
+/// The address of the string table.
+pub const DT_STRTAB: u64 = 5;
+/// The address of the symbol table.
+pub const DT_SYMTAB: u64 = 6;
+/// The size of the string table.
+pub const DT_STRSZ: u64 = 10;
+/// The size of a symbol.
+pub const DT_SYMENT: u64 = 11;
+/// The object's own name, as a string place.
+pub const DT_SONAME: u64 = 14;
+/// The older run path, as a string place.
+pub const DT_RPATH: u64 = 15;
+/// References are looked up in the object itself first.
+pub const DT_SYMBOLIC: u64 = 16;
+/// The run path, as a string place.
+pub const DT_RUNPATH: u64 = 29;
+/// Flags, of the names that begin `DF_`.
+pub const DT_FLAGS: u64 = 30;
+/// The address of the GNU hash table.
+pub const DT_GNU_HASH: u64 = 0x6fff_fef5;
+/// The address of the version indexes.
+pub const DT_VERSYM: u64 = 0x6fff_fff0;
+/// Flags, of the names that begin `DF_1_`.
+pub const DT_FLAGS_1: u64 = 0x6fff_fffb;
+/// The address of the version definitions.
+pub const DT_VERDEF: u64 = 0x6fff_fffc;
+/// How many version definitions there are.
+pub const DT_VERDEFNUM: u64 = 0x6fff_fffd;
+/// The address of the needed versions.
+pub const DT_VERNEED: u64 = 0x6fff_fffe;
+/// How many records of needed versions there are.
+pub const DT_VERNEEDNUM: u64 = 0x6fff_ffff;
+/// Libraries that audit what this object's needs bring.
+pub const DT_DEPAUDIT: u64 = 0x6fff_fefb;
+/// Libraries that audit this object.
+pub const DT_AUDIT: u64 = 0x6fff_fefc;
+/// A library that is searched before this one.
+pub const DT_AUXILIARY: u64 = 0x7fff_fffd;
+/// A library that is searched in place of this one.
+pub const DT_FILTER: u64 = 0x7fff_ffff;
+
+/// In `DT_FLAGS`: as `DT_SYMBOLIC`.
+pub const DF_SYMBOLIC: u64 = 0x2;
+/// In `DT_FLAGS_1`: the object's symbols come before all others.
+pub const DF_1_INTERPOSE: u64 = 0x400;
+/// In `DT_FLAGS_1`: the default directories are not searched.
+pub const DF_1_NODEFLIB: u64 = 0x800;
+
+/// The longest file that is read: 512 MiB.
+pub const LONGEST_FILE: u64 = 536_870_912;
+/// No segment ends above this address in memory.
+pub const HIGHEST_END: u64 = 1 << 62;
+/// The least alignment of a loaded segment.
+pub const LEAST_ALIGN: u64 = 4_096;
