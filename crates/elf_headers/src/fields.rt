@@ -1,0 +1,49 @@
+//! Fields of the headers, by the standard's names for their widths.
+
+ghost use Rattle.std.specs.Prelude.{◌≡◌, ◌≤◌, ◌+◌, length};
+ghost use Rattle.byte_view.specs.Headers.{header_at};
+ghost use Rattle.byte_view.specs.Numbers.{number_at};
+
+use byte_view::{Segment, u16_at, u32_at, u64_at};
+
+/// The Elf64_Half at a place.
+pub(crate) fn half(bytes: &[u8], at: u64) -> u16
+    requires { at + 2 ≤ length bytes.now }
+    ensures { result ≡ number_at 2 bytes.now at }
+{
+    u16_at(bytes, at).unwrap()
+}
+
+/// The Elf64_Word at a place.
+pub(crate) fn word(bytes: &[u8], at: u64) -> u32
+    requires { at + 4 ≤ length bytes.now }
+    ensures { result ≡ number_at 4 bytes.now at }
+{
+    u32_at(bytes, at).unwrap()
+}
+
+/// The Elf64_Xword, Elf64_Addr or Elf64_Off at a place.
+pub(crate) fn xword(bytes: &[u8], at: u64) -> u64
+    requires { at + 8 ≤ length bytes.now }
+    ensures { result ≡ number_at 8 bytes.now at }
+{
+    u64_at(bytes, at).unwrap()
+}
+
+/// The program header at a place.
+#[tactic(auto, unfolding(byte_view::specs::Headers::header_at))]
+pub(crate) fn segment_at(bytes: &[u8], at: u64) -> Segment
+    requires { at + 56 ≤ length bytes.now }
+    ensures { result ≡ header_at bytes.now at }
+{
+    Segment {
+        kind: word(bytes, at),
+        flags: word(bytes, at + 4),
+        offset: xword(bytes, at + 8),
+        vaddr: xword(bytes, at + 16),
+        paddr: xword(bytes, at + 24),
+        filesz: xword(bytes, at + 32),
+        memsz: xword(bytes, at + 40),
+        align: xword(bytes, at + 48),
+    }
+}
