@@ -1,0 +1,18 @@
+//! The dynamic table of an ELF file, and its strings.
+//!
+//! System V gABI, Dynamic Section and String Table; the GNU tags are in the Linux Standard Base.
+#![tactic(auto)]
+
+mod faults;
+mod flags;
+mod segment;
+mod strings;
+mod table;
+mod tags;
+#[cfg(test)]
+mod tests;
+
+pub use byte_view::Entry;
+pub use faults::DynFault;
+pub use flags::{ObjectFlags, StateFlags};
+pub use table::Dyn;

@@ -1,0 +1,119 @@
+//! The tags of the dynamic table: which are refused, which stand once, and which must be there.
+
+ghost use Rattle.std.specs.Prelude.{◌≡◌, []};
+ghost use Rattle.byte_view.specs.Checks.{TellsBy};
+ghost use Rattle.byte_view.specs.Dynamic.{value_of};
+ghost use Rattle.byte_view.specs.DynamicFlaws.{entry_flaw, has_tag, is_refused, is_single, missing_flaw, tags_flaw};
+ghost use Rattle.dyn_table.specs.Faults.{flaw_of};
+
+use crate::faults::{DynFault, flawed};
+use crate::flags::StateFlags;
+use byte_view::Entry;
+use byte_view::constants::{
+    DT_AUDIT, DT_AUXILIARY, DT_DEPAUDIT, DT_FILTER, DT_FLAGS, DT_FLAGS_1, DT_GNU_HASH, DT_HASH,
+    DT_RPATH, DT_RUNPATH, DT_SONAME, DT_STRSZ, DT_STRTAB, DT_SYMBOLIC, DT_SYMENT, DT_SYMTAB,
+    DT_VERDEF, DT_VERDEFNUM, DT_VERNEED, DT_VERNEEDNUM, DT_VERSYM,
+};
+
+/// The value of the first entry with this tag.
+pub(crate) fn value_of(tag: u64, entries: &[Entry]) -> Option<u64>
+    ensures { result ≡ value_of tag entries.now }
+{
+    entries.iter().find(|e| e.tag == tag).map(|e| e.value)
+}
+
+fn has_tag(tag: u64, entries: &[Entry]) -> bool
+    ensures { result ≡ has_tag tag entries.now }
+{
+    entries.iter().any(|e| e.tag == tag)
+}
+
+/// Does it change how libraries are found or bound, in ways that are not modelled?
+fn is_refused(e: &Entry) -> bool
+    ensures { result ≡ is_refused e.now }
+{
+    match e.tag {
+        DT_DEPAUDIT | DT_AUDIT | DT_AUXILIARY | DT_FILTER => true,
+        DT_FLAGS_1 => StateFlags(e.value).is_refused(),
+        _ => false,
+    }
+}
+
+/// Does the tag stand at most once?
+fn is_single(tag: u64) -> bool
+    ensures { result ≡ is_single tag }
+{
+    matches!(
+        tag,
+        DT_HASH
+            | DT_STRTAB
+            | DT_SYMTAB
+            | DT_STRSZ
+            | DT_SYMENT
+            | DT_SONAME
+            | DT_RPATH
+            | DT_SYMBOLIC
+            | DT_RUNPATH
+            | DT_FLAGS
+            | DT_GNU_HASH
+            | DT_VERSYM
+            | DT_FLAGS_1
+            | DT_VERDEF
+            | DT_VERDEFNUM
+            | DT_VERNEED
+            | DT_VERNEEDNUM
+    )
+}
+
+/// Are all entries of known meaning, each that stands once only once?
+///
+/// Each single tag is looked for once among the entries before it, and there are seventeen of them.
+#[tactic(auto, unfolding(byte_view::specs::DynamicFlaws::entry_flaw))]
+fn check_entries(entries: &[Entry]) -> Result<(), DynFault>
+    ensures { TellsBy flaw_of result (entry_flaw [] entries.now) }
+{
+    for (i, e) in entries.iter().enumerate() {
+        if is_refused(e) {
+            return Err(flawed(17, e.tag));
+        }
+        if is_single(e.tag) && has_tag(e.tag, &entries[..i]) {
+            return Err(flawed(18, e.tag));
+        }
+    }
+    Ok(())
+}
+
+/// Are the tags there that each table has, and those that others ask for?
+#[tactic(auto, unfolding(byte_view::specs::DynamicFlaws::missing_flaw))]
+fn check_missing(entries: &[Entry]) -> Result<(), DynFault>
+    ensures { TellsBy flaw_of result (missing_flaw entries.now) }
+{
+    if !has_tag(DT_STRTAB, entries) {
+        return Err(flawed(19, DT_STRTAB));
+    }
+    if !has_tag(DT_SYMTAB, entries) {
+        return Err(flawed(19, DT_SYMTAB));
+    }
+    if !has_tag(DT_STRSZ, entries) {
+        return Err(flawed(19, DT_STRSZ));
+    }
+    if !has_tag(DT_SYMENT, entries) {
+        return Err(flawed(19, DT_SYMENT));
+    }
+    if has_tag(DT_VERDEF, entries) && !has_tag(DT_VERDEFNUM, entries) {
+        return Err(flawed(19, DT_VERDEFNUM));
+    }
+    if has_tag(DT_VERNEED, entries) && !has_tag(DT_VERNEEDNUM, entries) {
+        return Err(flawed(19, DT_VERNEEDNUM));
+    }
+    Ok(())
+}
+
+/// Are the tags such that the table can be read?
+#[tactic(auto, unfolding(byte_view::specs::DynamicFlaws::tags_flaw))]
+pub(crate) fn check_tags(entries: &[Entry]) -> Result<(), DynFault>
+    ensures { TellsBy flaw_of result (tags_flaw entries.now) }
+{
+    check_entries(entries)?;
+    check_missing(entries)
+}
