@@ -1,0 +1,13 @@
+mod Escaped
+pub mod Counts
+pub mod OneRun
+pub mod Machine
+pub mod Order
+pub mod Known
+pub mod Places
+pub mod TwoWorlds
+pub mod Answered
+pub mod Listed
+pub mod Carried
+pub mod Opened
+pub mod Joined

@@ -1,0 +1,5 @@
+pub mod World
+pub mod Escaping
+pub mod LoadList
+pub mod ListedSearch
+pub mod Diamond

@@ -1,0 +1,98 @@
+ghost use Rattle.std.specs.Prelude.{◌≡◌, IfOk};
+
+use path_text::NoMemory;
+use std::alloc::Global;
+use std::marker::Model;
+
+/// A name as a file has it: bytes that need not be text.
+#[derive(Drop)]
+pub struct Name {
+    bytes: Vec<u8>,
+}
+
+impl Model for Name {
+    ghost use Rattle.std.specs.Prelude.{List, ℕ};
+
+    ghost Value = { List ℕ };
+
+    ghost view = { λ name. name.bytes.items };
+}
+
+impl Name {
+    /// A copy of the bytes.
+    pub fn from_bytes(alloc: Global, bytes: &[u8]) -> Result<Self, NoMemory>
+        ensures { IfOk result (λ name. name ≡ bytes.now) }
+    {
+        Ok(Name {
+            bytes: Vec::from_slice(alloc, bytes)?,
+        })
+    }
+
+    /// The bytes.
+    pub fn as_bytes(&self) -> &[u8]
+        ensures { result.now ≡ self.now }
+    {
+        self.bytes.as_slice()
+    }
+}
+
+/// Bytes that are printed or written.
+#[derive(Drop)]
+pub struct Text {
+    bytes: Vec<u8>,
+}
+
+impl Model for Text {
+    ghost use Rattle.std.specs.Prelude.{List, ℕ};
+
+    ghost Value = { List ℕ };
+
+    ghost view = { λ text. text.bytes.items };
+}
+
+impl Text {
+    /// A copy of the bytes.
+    pub fn from_bytes(alloc: Global, bytes: &[u8]) -> Result<Self, NoMemory>
+        ensures { IfOk result (λ text. text ≡ bytes.now) }
+    {
+        Ok(Text {
+            bytes: Vec::from_slice(alloc, bytes)?,
+        })
+    }
+
+    /// These bytes.
+    pub fn from_vec(bytes: Vec<u8>) -> Self
+        ensures { result ≡ bytes.items }
+    {
+        Text { bytes }
+    }
+
+    /// The bytes.
+    pub fn as_bytes(&self) -> &[u8]
+        ensures { result.now ≡ self.now }
+    {
+        self.bytes.as_slice()
+    }
+}
+
+#[cfg(test)]
+mod tests {
+    use super::{Name, Text};
+    use std::alloc::AllocError;
+
+    #[test]
+    fn copies_bytes(rt: HostRuntime) -> Result<(), AllocError> {
+        let alloc = rt.alloc();
+        let bytes = b"libc.so.6\xff".as_slice();
+        match Name::from_bytes(alloc, bytes) {
+            Ok(name) => assert!(rt; name.as_bytes() == bytes),
+            Err(_) => assert!(rt; false),
+        }
+        match Text::from_bytes(alloc, bytes) {
+            Ok(text) => assert!(rt; text.as_bytes() == bytes),
+            Err(_) => assert!(rt; false),
+        }
+        assert!(rt; Text::from_vec(Vec::from_slice(alloc, bytes)?).as_bytes() == bytes);
+        Ok(())
+    }
+}

@@ -1,0 +1,78 @@
+ghost use Rattle.std.specs.Prelude.{◌≡◌, ◌<◌, ◌∷◌, [], ◌++◌, ℕ, List, IfOk, OnOk};
+ghost use Rattle.load_model.specs.Escaping.{AreBytes, IsField, escaped, escaped_byte, hex_digit};
+
+use crate::Text;
+use path_text::NoMemory;
+use std::alloc::Global;
+
+fn digit(value: u8) -> u8
+    requires { value < 16 }
+    ensures { result ≡ hex_digit value }
+{
+    if value < 10 {
+        b'0' + value
+    } else {
+        b'a' + (value - 10)
+    }
+}
+
+fn push_escaped(line: &mut Vec<u8>, byte: u8) -> Result<(), NoMemory>
+    ensures { OnOk result (line.new.items ≡ line.old.items ++ escaped_byte byte) }
+{
+    if (0x21..=0x7e).contains(&byte) && byte != b'\\' {
+        line.extend_from_slice(&[byte])?;
+    } else {
+        line.extend_from_slice(&[b'\\', b'x', digit(byte / 16), digit(byte % 16)])?;
+    }
+    Ok(())
+}
+
+/// The text of a name or a path in a line: each byte outside 0x21 to 0x7e, and `\`, is `\xHH` with two lower-case
+/// digits, an empty text is `\e`, and the text `-` is `\x2d`.
+pub fn escape(alloc: Global, bytes: &[u8]) -> Result<Text, NoMemory>
+    ensures { IfOk result (λ text. text ≡ escaped bytes.now) }
+{
+    if bytes.is_empty() {
+        return Text::from_bytes(alloc, b"\\e");
+    }
+    if bytes == b"-".as_slice() {
+        return Text::from_bytes(alloc, b"\\x2d");
+    }
+    let mut line = Vec::new(alloc);
+    for byte in bytes {
+        push_escaped(&mut line, *byte)?;
+    }
+    Ok(Text::from_vec(line))
+}
+
+/// What is escaped can stand as a field of a line, and tells the bytes.
+pub fn escape_is_field()
+    ensures field { (bytes : List ℕ) → AreBytes bytes → IsField (escaped bytes) }
+    ensures told { (xs ys : List ℕ) → AreBytes xs → AreBytes ys → escaped xs ≡ escaped ys → xs ≡ ys }
+{}
+
+#[cfg(test)]
+mod tests {
+    use super::escape;
+
+    #[test]
+    fn escaped_texts(rt: HostRuntime) {
+        let table = [
+            (b"libc.so.6".as_slice(), b"libc.so.6".as_slice()),
+            (b"".as_slice(), b"\\e".as_slice()),
+            (b"-".as_slice(), b"\\x2d".as_slice()),
+            (b"--".as_slice(), b"--".as_slice()),
+            (b"a b".as_slice(), b"a\\x20b".as_slice()),
+            (
+                b"\\\x00\x7f\xff~!".as_slice(),
+                b"\\x5c\\x00\\x7f\\xff~!".as_slice(),
+            ),
+        ];
+        for (bytes, want) in table {
+            match escape(rt.alloc(), bytes) {
+                Ok(text) => assert!(rt; text.as_bytes() == want),
+                Err(_) => assert!(rt; false),
+            }
+        }
+    }
+}

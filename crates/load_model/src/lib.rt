@@ -1,0 +1,21 @@
+//! The plain types of the loader's model, and in `specs/` the model itself.
+#![tactic(auto)]
+
+mod bytes;
+mod escaping;
+mod laws;
+mod lists;
+mod setting;
+mod world;
+
+pub use bytes::{Name, Text};
+pub use escaping::{escape, escape_is_field};
+pub use laws::{
+    a_run_or_a_stop, at_most_one_run, copied_in_two_worlds, diamond_loads_breadth_first,
+    first_right_decides, joined_is_path, listed_in_two_worlds, one_answer, opens_only_first_right,
+    run_found, run_in_two_worlds, run_is_in_order, run_is_run, stop_is_stop,
+};
+pub use lists::List;
+pub use path_text::NoMemory;
+pub use setting::Setting;
+pub use world::WorldFile;

@@ -1,0 +1,67 @@
+ghost use Rattle.std.specs.Prelude.{◌≡◌, [], ◌∷◌, ◌++◌, OnErr, OnOk};
+
+use path_text::NoMemory;
+use std::alloc::Global;
+use std::marker::Model;
+
+/// A list that grows at its end.
+#[derive(Drop)]
+pub struct List<T> {
+    items: Vec<T>,
+}
+
+impl<T> Model for List<T> {
+    ghost use Rattle.std.specs.Prelude.{List as Sequence};
+    ghost use Rattle.std.specs.Coded.{coded_list};
+
+    ghost Value = { Sequence T };
+
+    ghost coded = { coded_list T.code };
+
+    ghost view = { λ list. list.items.items };
+}
+
+impl<T> List<T> {
+    /// An empty list, which takes no memory yet.
+    pub fn new(alloc: Global) -> List<T>
+        ensures { result ≡ [] }
+    {
+        List {
+            items: Vec::new(alloc),
+        }
+    }
+
+    /// Adds a value at the end. A refused push leaves the list as it was.
+    pub fn push(&mut self, value: T) -> Result<(), NoMemory>
+    where
+        T: Drop,
+        ensures ok { OnOk result (self.new ≡ self.old ++ value ∷ []) }
+        ensures err { OnErr result (self.new ≡ self.old) }
+    {
+        match self.items.push(value) {
+            Ok(()) => Ok(()),
+            Err(_) => Err(NoMemory),
+        }
+    }
+
+    /// The values, in order.
+    pub fn as_slice(&self) -> &[T]
+        ensures { result.now ≡ self.now }
+    {
+        self.items.as_slice()
+    }
+}
+
+#[cfg(test)]
+mod tests {
+    use super::List;
+
+    #[test]
+    fn pushes_in_order(rt: HostRuntime) {
+        let mut list = List::new(rt.alloc());
+        for value in [3u8, 1, 2] {
+            assert!(rt; list.push(value).is_ok());
+        }
+        assert!(rt; list.as_slice() == [3, 1, 2].as_slice());
+    }
+}
