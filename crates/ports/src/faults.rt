@@ -1,0 +1,3 @@
+/// A call failed, and the count of faults of its object rose.
+#[derive(Clone, Copy, PartialEq, Eq, Debug)]
+pub struct Failed;
