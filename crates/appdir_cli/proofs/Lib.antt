@@ -1,0 +1,12 @@
+pub mod AskLemmas
+pub mod CompletenessLemmas
+pub mod DirectoryLemmas
+pub mod EndingLemmas
+pub mod Lists
+pub mod LoadingLemmas
+pub mod NamesLemmas
+pub mod OpeningLemmas
+pub mod StartLemmas
+pub mod StepLemmas
+pub mod TwoWorldsLemmas
+pub mod WordsLemmas

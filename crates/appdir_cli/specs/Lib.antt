@@ -1,0 +1,14 @@
+pub mod DynamicTable
+pub mod Endings
+pub mod FileHeader
+pub mod Lines
+pub mod Loading
+pub mod Numbers
+pub mod Opening
+pub mod Outcome
+pub mod ProgramHeaders
+pub mod Status
+pub mod Step
+pub mod ThinForm
+pub mod TwoWorlds
+pub mod Words

@@ -1,0 +1,59 @@
+-- The shapes of the words.
+use Rattle.std.specs.Prelude.{ℕ, List, [], ◌∷◌, Bool, true, cond, ◌==◌, Option, Some, None, codes, map, string_bytes, String, All, IsUtf8}
+use Rattle.std.specs.Global.{Global}
+use Rattle.std.specs.List.{list_any, list_all}
+use Rattle.std.specs.Result.{result_ok}
+use Rattle.std.specs.Str.{bytes_eq}
+use Rattle.path_text.specs.Path.{path_of}
+use Rattle.path_text.specs.FileName.{is_file_name_text}
+use Rattle.appdir_cli.specs.declared.words.Quick.{Quick}
+
+-- names that are all UTF-8
+pub record AreTexts (names : List (List ℕ)) : Type 0 where
+  pub utf8 : All IsUtf8 names
+
+-- the words as texts
+abbrev pub texts : List (String Global) → List (List ℕ)
+texts words = map (λ w. string_bytes w) words
+
+-- a word that no shape has: an empty one, or one that begins with `-`
+abbrev pub is_unshaped : List ℕ → Bool
+is_unshaped [] = true
+is_unshaped (c ∷ word) = c == 45
+
+-- a path that reads, in normal form
+abbrev pub path_in : List ℕ → Option (List ℕ)
+path_in text = result_ok (path_of text)
+
+abbrev pub default_names_list : List (List ℕ)
+default_names_list =
+    codes "ld-linux-x86-64.so.2" ∷
+    codes "libc.so.6" ∷
+    codes "libm.so.6" ∷
+    codes "libdl.so.2" ∷
+    codes "libpthread.so.0" ∷
+    codes "librt.so.1" ∷
+    codes "libresolv.so.2" ∷
+    codes "libutil.so.1" ∷ []
+
+-- the words NAME, or the default names where there are none
+abbrev pub names_of : List (List ℕ) → List (List ℕ)
+names_of [] = default_names_list
+names_of (name ∷ names) = name ∷ names
+
+abbrev pub packed : Option (List ℕ) → Option (List ℕ) → List (List ℕ) → Option Quick
+packed (Some p) (Some o) ns = cond (list_all is_file_name_text ns) (Some (record { program = p; out = o; names = names_of ns })) None
+packed _ _ ns = None
+
+-- PROGRAM OUT [NAME ..]
+abbrev pub quick_of : List (List ℕ) → Option Quick
+quick_of (program ∷ out ∷ names) = packed (path_in program) (path_in out) names
+quick_of _ = None
+
+abbrev pub shape_of : List (List ℕ) → Option Quick
+shape_of (verb ∷ words) = cond (bytes_eq verb (codes "quick")) (quick_of words) None
+shape_of [] = None
+
+-- the command that the words have the shape of, or none
+abbrev pub command_of : List (List ℕ) → Option Quick
+command_of words = cond (list_any is_unshaped words) None (shape_of words)

@@ -1,0 +1,191 @@
+ghost use Rattle.std.specs.Prelude.{◌≡◌, [], ◌∷◌, ◌++◌, IfOk, IfSome, MatchOption, OnOk, string_bytes};
+ghost use Rattle.std.specs.List.{list_all, list_any};
+ghost use Rattle.path_text.specs.FileName.{is_file_name_text};
+ghost use Rattle.appdir_cli.specs.Words.{AreTexts, command_of, default_names_list, is_unshaped, names_of, packed, path_in, quick_of, shape_of, texts};
+
+use load_model::{List, Name};
+use path_text::{Abs, NoMemory, PathFault, is_file_name};
+use std::alloc::Global;
+
+/// `quick PROGRAM OUT [NAME ..]`: pack one program without a desktop entry. `names` are the libraries that every
+/// host is expected to have: the words NAME, or the default names where none is given.
+#[derive(Drop)]
+pub struct Quick {
+    pub program: Abs,
+    pub out: Abs,
+    pub names: List<Name>,
+}
+
+/// The command that the words have the shape of, or none.
+pub fn read_words(alloc: Global, words: &[String]) -> Result<Option<Quick>, NoMemory>
+    ensures command { IfOk result (λ command. command ≡ command_of (texts words.now)) }
+    ensures utf8 { IfOk result (λ command. IfSome command (λ quick. AreTexts quick.names)) }
+{
+    if any_unshaped(words) {
+        return Ok(None);
+    }
+    match split_word(words) {
+        Some((verb, rest)) => read_shape(alloc, verb, rest),
+        None => Ok(None),
+    }
+}
+
+/// Whether a word has no place in any shape: an empty one, or one that begins with `-`.
+fn any_unshaped(words: &[String]) -> bool
+    ensures { result ≡ list_any is_unshaped (texts words.now) }
+{
+    some_unshaped(words)
+}
+
+fn some_unshaped(words: &[String]) -> bool
+    ensures { result ≡ list_any (λ w. is_unshaped (string_bytes w)) words.now }
+{
+    words.iter().any(|word| is_unshaped_word(word.as_bytes()))
+}
+
+fn is_unshaped_word(word: &[u8]) -> bool
+    ensures { result ≡ is_unshaped word.now }
+{
+    match word.first() {
+        None => true,
+        Some(first) => *first == b'-',
+    }
+}
+
+/// The first word and the words behind it.
+fn split_word(words: &[String]) -> Option<(&[u8], &[String])>
+    ensures { MatchOption result (texts words.now ≡ []) (λ p. texts words.now ≡ p.0.now ∷ texts p.1.now) }
+{
+    match words.split_first() {
+        Some((first, rest)) => Some((first.as_bytes(), rest)),
+        None => None,
+    }
+}
+
+fn read_shape(alloc: Global, verb: &[u8], words: &[String]) -> Result<Option<Quick>, NoMemory>
+    ensures command { IfOk result (λ command. command ≡ shape_of (verb.now ∷ texts words.now)) }
+    ensures utf8 { IfOk result (λ command. IfSome command (λ quick. AreTexts quick.names)) }
+{
+    if verb == b"quick".as_slice() {
+        read_quick(alloc, words)
+    } else {
+        Ok(None)
+    }
+}
+
+fn read_quick(alloc: Global, words: &[String]) -> Result<Option<Quick>, NoMemory>
+    ensures command { IfOk result (λ command. command ≡ quick_of (texts words.now)) }
+    ensures utf8 { IfOk result (λ command. IfSome command (λ quick. AreTexts quick.names)) }
+{
+    let Some((program, words)) = split_word(words) else {
+        return Ok(None);
+    };
+    let Some((out, names)) = split_word(words) else {
+        return Ok(None);
+    };
+    let program = read_path(alloc, program)?;
+    let out = read_path(alloc, out)?;
+    pack_words(alloc, program, out, names)
+}
+
+fn pack_words(
+    alloc: Global,
+    program: Option<Abs>,
+    out: Option<Abs>,
+    names: &[String],
+) -> Result<Option<Quick>, NoMemory>
+    ensures command { IfOk result (λ command. command ≡ packed program out (texts names.now)) }
+    ensures utf8 { IfOk result (λ command. IfSome command (λ quick. AreTexts quick.names)) }
+{
+    let (Some(program), Some(out)) = (program, out) else {
+        return Ok(None);
+    };
+    if !are_file_names(names) {
+        return Ok(None);
+    }
+    let names = read_names(alloc, names)?;
+    Ok(Some(Quick {
+        program,
+        out,
+        names,
+    }))
+}
+
+fn are_file_names(words: &[String]) -> bool
+    ensures { result ≡ list_all is_file_name_text (texts words.now) }
+{
+    all_file_names(words)
+}
+
+fn all_file_names(words: &[String]) -> bool
+    ensures { result ≡ list_all (λ w. is_file_name_text (string_bytes w)) words.now }
+{
+    words.iter().all(|word| is_file_name(word.as_bytes()))
+}
+
+fn read_path(alloc: Global, text: &[u8]) -> Result<Option<Abs>, NoMemory>
+    ensures { IfOk result (λ path. path ≡ path_in text.now) }
+{
+    match Abs::read(alloc, text) {
+        Ok(path) => Ok(Some(path)),
+        Err(PathFault::NoMemory) => Err(NoMemory),
+        Err(_) => Ok(None),
+    }
+}
+
+fn read_names(alloc: Global, words: &[String]) -> Result<List<Name>, NoMemory>
+    ensures names { IfOk result (λ names. names ≡ names_of (texts words.now)) }
+    ensures utf8 { IfOk result (λ names. AreTexts names) }
+{
+    if words.is_empty() {
+        default_names(alloc)
+    } else {
+        copied_names(alloc, words)
+    }
+}
+
+fn copied_names(alloc: Global, words: &[String]) -> Result<List<Name>, NoMemory>
+    ensures names { IfOk result (λ names. names ≡ texts words.now) }
+    ensures utf8 { IfOk result (λ names. AreTexts names) }
+{
+    let mut names = no_names(alloc);
+    for word in words {
+        push_text(alloc, &mut names, word.as_str())?;
+    }
+    Ok(names)
+}
+
+/// The libraries that every host is expected to have, where the words name none.
+fn default_names(alloc: Global) -> Result<List<Name>, NoMemory>
+    ensures names { IfOk result (λ names. names ≡ default_names_list) }
+    ensures utf8 { IfOk result (λ names. AreTexts names) }
+{
+    let mut names = no_names(alloc);
+    push_text(alloc, &mut names, "ld-linux-x86-64.so.2")?;
+    push_text(alloc, &mut names, "libc.so.6")?;
+    push_text(alloc, &mut names, "libm.so.6")?;
+    push_text(alloc, &mut names, "libdl.so.2")?;
+    push_text(alloc, &mut names, "libpthread.so.0")?;
+    push_text(alloc, &mut names, "librt.so.1")?;
+    push_text(alloc, &mut names, "libresolv.so.2")?;
+    push_text(alloc, &mut names, "libutil.so.1")?;
+    Ok(names)
+}
+
+/// Adds a text at the end of names that are all texts.
+fn push_text(alloc: Global, names: &mut List<Name>, text: &str) -> Result<(), NoMemory>
+    requires { AreTexts names.old }
+    ensures pushed { OnOk result (names.new ≡ names.old ++ text.now ∷ []) }
+    ensures utf8 { OnOk result (AreTexts names.new) }
+{
+    let name = Name::from_bytes(alloc, text.as_bytes())?;
+    names.push(name)?;
+    Ok(())
+}
+
+fn no_names(alloc: Global) -> List<Name>
+    ensures names { result ≡ [] }
+    ensures utf8 { AreTexts result }
+{
+    List::new(alloc)
+}
