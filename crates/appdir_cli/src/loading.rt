@@ -7,6 +7,8 @@ ghost use Rattle.appdir_cli.specs.Outcome.{MOST_OBJECTS as most_objects, hosts_o
 ghost use Rattle.appdir_cli.specs.Step.{IsStepAnswer};
 
 mod directories;
+#[cfg(test)]
+mod tests;
 
 use crate::copies::copy_path;
 use crate::refusal::Refusal;

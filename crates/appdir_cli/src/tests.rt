@@ -1,4 +1,4 @@
-mod outside;
+pub(crate) mod outside;
 
 use crate::thin_form::made::{library, program};
 use crate::{Status, exit_number, status_name};
