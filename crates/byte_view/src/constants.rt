@@ -105,3 +105,58 @@ pub const LONGEST_FILE: u64 = 536_870_912;
 pub const HIGHEST_END: u64 = 1 << 62;
 /// The least alignment of a loaded segment.
 pub const LEAST_ALIGN: u64 = 4_096;
+
+/// The size of a section header.
+pub const SHDR_SIZE: u16 = 64;
+/// A section that holds the symbols of the dynamic table.
+pub const SHT_DYNSYM: u32 = 11;
+/// The section of a symbol that is not defined here.
+pub const SHN_UNDEF: u16 = 0;
+/// The section of a symbol whose value is no address.
+pub const SHN_ABS: u16 = 0xfff1;
+/// The size of a symbol.
+pub const SYM_SIZE: u64 = 24;
+
+/// A symbol that other objects see.
+pub const STB_GLOBAL: u8 = 1;
+/// A symbol that other objects see, and that may be missing.
+pub const STB_WEAK: u8 = 2;
+/// A symbol of which a process has one.
+pub const STB_GNU_UNIQUE: u8 = 10;
+
+/// A symbol of no type.
+pub const STT_NOTYPE: u8 = 0;
+/// A variable.
+pub const STT_OBJECT: u8 = 1;
+/// A function.
+pub const STT_FUNC: u8 = 2;
+/// A variable that is not placed yet.
+pub const STT_COMMON: u8 = 5;
+/// A variable of each thread.
+pub const STT_TLS: u8 = 6;
+/// A function that gives the function to call.
+pub const STT_GNU_IFUNC: u8 = 10;
+
+/// Seen by all objects.
+pub const STV_DEFAULT: u8 = 0;
+/// Seen by the object alone, and never by another's address.
+pub const STV_INTERNAL: u8 = 1;
+/// Seen by the object alone.
+pub const STV_HIDDEN: u8 = 2;
+/// Seen by all objects, and bound by the object to its own.
+pub const STV_PROTECTED: u8 = 3;
+
+/// The version index of a symbol that other objects do not see.
+pub const VER_NDX_LOCAL: u16 = 0;
+/// The version index of a symbol without a version.
+pub const VER_NDX_GLOBAL: u16 = 1;
+/// In a version index: a definition that is not the default of its name.
+pub const VERSYM_HIDDEN: u16 = 0x8000;
+/// In a version index: the index itself.
+pub const VERSYM_VERSION: u16 = 0x7fff;
+/// The version of the records of version definitions and of needed versions.
+pub const VER_CURRENT: u16 = 1;
+/// The definition that names the object itself.
+pub const VER_FLG_BASE: u16 = 1;
+/// A version that may be missing.
+pub const VER_FLG_WEAK: u16 = 2;

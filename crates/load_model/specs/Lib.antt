@@ -3,3 +3,5 @@ pub mod Escaping
 pub mod LoadList
 pub mod ListedSearch
 pub mod Diamond
+pub mod SymbolWords
+pub mod Hashes

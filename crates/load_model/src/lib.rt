@@ -1,15 +1,21 @@
 //! The plain types of the loader's model, and in `specs/` the model itself.
 #![tactic(auto)]
 
+mod asks;
 mod bytes;
 mod escaping;
+mod faces;
 mod laws;
 mod lists;
 mod setting;
+mod symbols;
 mod world;
 
+pub use asks::Ask;
+pub use byte_view::Flaw;
 pub use bytes::{Name, Text};
 pub use escaping::{escape, escape_is_field};
+pub use faces::Face;
 pub use laws::{
     a_run_or_a_stop, at_most_one_run, copied_in_two_worlds, diamond_loads_breadth_first,
     first_right_decides, joined_is_path, listed_in_two_worlds, one_answer, opens_only_first_right,
@@ -18,4 +24,5 @@ pub use laws::{
 pub use lists::List;
 pub use path_text::NoMemory;
 pub use setting::Setting;
+pub use symbols::{Class, RawSym, Sym, Ver};
 pub use world::WorldFile;

@@ -1,0 +1,24 @@
+use crate::{Ask, List, Name, Sym};
+
+/// What a loader sees of a file.
+#[derive(Drop)]
+pub struct Face {
+    pub machine: u16,
+    /// The path of the program interpreter.
+    pub interp: Option<Name>,
+    pub soname: Option<Name>,
+    /// The names of the needed libraries, in order.
+    pub needs: List<Name>,
+    pub rpath: Option<Name>,
+    pub runpath: Option<Name>,
+    /// Are its references looked up in itself first?
+    pub symbolic: bool,
+    /// Its symbols by index.
+    pub syms: List<Sym>,
+    /// Does it have a table of version indexes?
+    pub versioned: bool,
+    /// The names of its version definitions, in order.
+    pub defs: List<Name>,
+    /// The versions that it asks of other files, in order.
+    pub asks: List<Ask>,
+}
