@@ -21,7 +21,7 @@ use Rattle.appdir_cli.specs.declared.refusal.Refusal.{Refusal}
 use Rattle.appdir_cli.specs.declared.refusal.Refusal.TheVariants.{NotBuilt}
 use Rattle.appdir_cli.specs.declared.stop.Stop.{Stop}
 use Rattle.appdir_cli.specs.declared.stop.Stop.TheVariants.{Refused, Read, NoMemory}
-use Rattle.appdir_cli.specs.declared.thin_form.ThinFace.{ThinFace}
+use Rattle.appdir_cli.specs.declared.thin_faces.ThinFace.{ThinFace}
 
 -- ---- a file for the list
 abbrev grown_by : List LoadedObject → List ℕ → WorldFile × ThinFace → Bool → Bool → Bool → Result (List LoadedObject) Refusal

@@ -26,12 +26,12 @@ use Rattle.load_model.specs.ListedSearch.{first_right, joined, listed_paths, or_
 use Rattle.load_model.specs.declared.world.WorldFile.{WorldFile}
 use Rattle.appdir_cli.specs.Loading.{decided, found_in, or_later, seen_by}
 use Rattle.appdir_cli.specs.Opening.{EM_X86_64, opened_at, opened_of}
-use Rattle.appdir_cli.specs.ThinForm.{thin_face_of}
+use Rattle.appdir_cli.specs.ThinFaces.{thin_face_of}
 use Rattle.appdir_cli.specs.declared.opening.Opened.{Opened}
 use Rattle.appdir_cli.specs.declared.refusal.Refusal.{Refusal}
 use Rattle.appdir_cli.specs.declared.refusal.Refusal.TheVariants.{MissingLibrary}
-use Rattle.appdir_cli.specs.declared.thin_form.ThinFace.{ThinFace}
-use Rattle.appdir_cli.specs.declared.thin_form.ThinFault.{ThinFault}
+use Rattle.appdir_cli.specs.declared.thin_faces.ThinFace.{ThinFace}
+use Rattle.appdir_cli.specs.declared.thin_faces.Unread.{Unread}
 
 -- ---- a directory joined with a name
 slashed-push : (parts : List (List ℕ)) (name : List ℕ) → slashed (parts ++ name ∷ []) ≡ slashed parts ++ 47 ∷ name
@@ -93,7 +93,7 @@ pub only_path : (read path : List ℕ) (wanted : Result (List ℕ) PathFault) �
 only_path read path wanted e h = cc
 
 -- ---- the first right file
-step_read : (name asker : List ℕ) (file : WorldFile) (f : Result ThinFace ThinFault) (later : Result (WorldFile × ThinFace) Refusal) → seen_by file f ≡ or_later (opened_of (kind_of_read (thin_face_of) file f)) later
+step_read : (name asker : List ℕ) (file : WorldFile) (f : Result ThinFace Unread) (later : Result (WorldFile × ThinFace) Refusal) → seen_by file f ≡ or_later (opened_of (kind_of_read (thin_face_of) file f)) later
 step_read name asker file (Ok face) later = refl
 step_read name asker file (Err fault) later = refl
 

@@ -16,15 +16,15 @@ use Rattle.load_model.proofs.Listed.{place_at}
 use Rattle.load_model.proofs.Places.{any_here, any_place, first_none, none_passes}
 use Rattle.load_model.proofs.TwoWorlds.{known_cases, named_some}
 use Rattle.appdir_cli.specs.Loading.{asked, asked_all, asked_by, brought, decided, found_in, has_id, has_name, object_of, program_object, searched, seen_by, walked}
-use Rattle.appdir_cli.specs.Opening.{EM_X86_64}
-use Rattle.appdir_cli.specs.Outcome.{MOST_OBJECTS, default_dirs, hosts_of, linked, linked_as, not_thin, program_of, run_by, stops}
-use Rattle.appdir_cli.specs.ThinForm.{thin_face_of}
+use Rattle.appdir_cli.specs.Opening.{EM_X86_64, not_read}
+use Rattle.appdir_cli.specs.Outcome.{MOST_OBJECTS, default_dirs, hosts_of, linked, linked_as, program_of, run_by, stops}
+use Rattle.appdir_cli.specs.ThinFaces.{thin_face_of}
 use Rattle.appdir_cli.specs.declared.loading.LoadedObject.{LoadedObject}
 use Rattle.appdir_cli.specs.declared.refusal.Refusal.{Refusal}
 use Rattle.appdir_cli.specs.declared.refusal.Refusal.TheVariants.{MissingLibrary, NotBuilt}
 use Rattle.appdir_cli.specs.declared.starting.Start.{Start}
-use Rattle.appdir_cli.specs.declared.thin_form.ThinFace.{ThinFace}
-use Rattle.appdir_cli.specs.declared.thin_form.ThinFault.{ThinFault}
+use Rattle.appdir_cli.specs.declared.thin_faces.ThinFace.{ThinFace}
+use Rattle.appdir_cli.specs.declared.thin_faces.Unread.{Unread}
 use Rattle.appdir_cli.proofs.Lists.{list_any-map}
 
 abbrev pub as_object : LoadedObject → Object
@@ -125,7 +125,7 @@ and_then objs (Err x) (Ok os) f g h k = absurd h
 
 module _ (world : World) (dirs names : List (List ℕ)) where
   abbrev seek : List Object → List Asked → Request → Result Object Refusal
-  seek = listed_search (linked thin_face_of not_thin) (stops thin_face_of not_thin) EM_X86_64 world dirs names
+  seek = listed_search (linked thin_face_of not_read) (stops thin_face_of not_read) EM_X86_64 world dirs names
 
   abbrev answer : List Object → List Asked → Request → Result Found Refusal
   answer = target_of NotBuilt MOST_OBJECTS seek
@@ -159,7 +159,7 @@ module _ (world : World) (dirs names : List (List ℕ)) where
   ids_alike : (os : List LoadedObject) (id : List ℕ) → list_any (λ (o : Object). bytes_eq o.id id) (as_objects os) ≡ list_any (has_id id) os
   ids_alike os id = list_any-map (λ (o : Object). bytes_eq o.id id) as_object os
 
-  with_face : (s : Loaded) (os : List LoadedObject) (r : Request) (file : WorldFile) (face : ThinFace) → s.objs ≡ as_objects os → IsLogged s.objs s.log → Agrees s.objs (goes s r (by_search NotBuilt MOST_OBJECTS seek s.objs (by_linked (linked thin_face_of not_thin) (stops thin_face_of not_thin) EM_X86_64 world dirs names s.objs r.name file (record { soname = face.soname; needs = face.needs })))) (brought os r.name (file, face))
+  with_face : (s : Loaded) (os : List LoadedObject) (r : Request) (file : WorldFile) (face : ThinFace) → s.objs ≡ as_objects os → IsLogged s.objs s.log → Agrees s.objs (goes s r (by_search NotBuilt MOST_OBJECTS seek s.objs (by_linked (linked thin_face_of not_read) (stops thin_face_of not_read) EM_X86_64 world dirs names s.objs r.name file (record { soname = face.soname; needs = face.needs })))) (brought os r.name (file, face))
   unfolding brought
   with_face s os r file face e logged =
       let ids : list_any (λ (o : Object). bytes_eq o.id file.id) s.objs ≡ list_any (has_id file.id) os = ap (list_any (λ (o : Object). bytes_eq o.id file.id)) e ∙ ids_alike os file.id in
@@ -168,16 +168,16 @@ module _ (world : World) (dirs names : List (List ℕ)) where
       subst (λ (x : Bool). Agrees s.objs (goes s r (by_search NotBuilt MOST_OBJECTS seek s.objs (cond x (Err NotBuilt) (cond (may_be r.name face.soname) (Ok (thin_object r.name file face)) (Err NotBuilt))))) (brought os r.name (file, face))) (sym ids)
       (settled s os r file face (list_any (has_id file.id) os) (may_be r.name face.soname) (nat_lt (length os) MOST_OBJECTS) e logged ids room)
 
-  with_read : (s : Loaded) (os : List LoadedObject) (r : Request) (file : WorldFile) (f : Result ThinFace ThinFault) → s.objs ≡ as_objects os → IsLogged s.objs s.log → Agrees s.objs (goes s r (by_search NotBuilt MOST_OBJECTS seek s.objs (by_reading (linked thin_face_of not_thin) (stops thin_face_of not_thin) EM_X86_64 world dirs names s.objs r.name file (linked_as thin_face_of not_thin f)))) (next (seen_by file f) (brought os r.name))
+  with_read : (s : Loaded) (os : List LoadedObject) (r : Request) (file : WorldFile) (f : Result ThinFace Unread) → s.objs ≡ as_objects os → IsLogged s.objs s.log → Agrees s.objs (goes s r (by_search NotBuilt MOST_OBJECTS seek s.objs (by_reading (linked thin_face_of not_read) (stops thin_face_of not_read) EM_X86_64 world dirs names s.objs r.name file (linked_as thin_face_of not_read f)))) (next (seen_by file f) (brought os r.name))
   with_read s os r file (Err fault) e logged = refl
   with_read s os r file (Ok face) e logged = with_face s os r file face e logged
 
-  with_file : (s : Loaded) (os : List LoadedObject) (r : Request) (asker : List ℕ) (p : Option WorldFile) → s.objs ≡ as_objects os → IsLogged s.objs s.log → asker_path s.objs r ≡ asker → Agrees s.objs (goes s r (by_search NotBuilt MOST_OBJECTS seek s.objs (by_file (linked thin_face_of not_thin) (stops thin_face_of not_thin) EM_X86_64 world dirs names s.objs r p))) (next (decided r.name asker p) (brought os r.name))
+  with_file : (s : Loaded) (os : List LoadedObject) (r : Request) (asker : List ℕ) (p : Option WorldFile) → s.objs ≡ as_objects os → IsLogged s.objs s.log → asker_path s.objs r ≡ asker → Agrees s.objs (goes s r (by_search NotBuilt MOST_OBJECTS seek s.objs (by_file (linked thin_face_of not_read) (stops thin_face_of not_read) EM_X86_64 world dirs names s.objs r p))) (next (decided r.name asker p) (brought os r.name))
   unfolding linked
   with_file s os r asker None e logged path = ap (λ x. MissingLibrary r.name x) path
   with_file s os r asker (Some file) e logged path = with_read s os r file (thin_face_of file.bytes) e logged
 
-  with_list : (s : Loaded) (os : List LoadedObject) (r : Request) (asker : List ℕ) (b : Bool) → s.objs ≡ as_objects os → IsLogged s.objs s.log → asker_path s.objs r ≡ asker → Agrees s.objs (goes s r (by_search NotBuilt MOST_OBJECTS seek s.objs (cond b (by_file (linked thin_face_of not_thin) (stops thin_face_of not_thin) EM_X86_64 world dirs names s.objs r (first_right EM_X86_64 world (listed_paths dirs r.name))) (Err NotBuilt)))) (cond b (next (found_in world dirs r.name asker) (brought os r.name)) (Err NotBuilt))
+  with_list : (s : Loaded) (os : List LoadedObject) (r : Request) (asker : List ℕ) (b : Bool) → s.objs ≡ as_objects os → IsLogged s.objs s.log → asker_path s.objs r ≡ asker → Agrees s.objs (goes s r (by_search NotBuilt MOST_OBJECTS seek s.objs (cond b (by_file (linked thin_face_of not_read) (stops thin_face_of not_read) EM_X86_64 world dirs names s.objs r (first_right EM_X86_64 world (listed_paths dirs r.name))) (Err NotBuilt)))) (cond b (next (found_in world dirs r.name asker) (brought os r.name)) (Err NotBuilt))
   unfolding found_in
   with_list s os r asker false e logged path = refl
   with_list s os r asker true e logged path = with_file s os r asker (first_right EM_X86_64 world (listed_paths dirs r.name)) e logged path

@@ -1,5 +1,5 @@
 -- What is read of a file, and what the builder sees of it.
-use Rattle.std.proofs.Common.{ℕ, zero, suc, List, [], ◌∷◌, ◌≤◌, ◌<◌, Bool, true, false, cond, ◌≡◌, refl, ap, sym, ◌∙◌, subst, length, take, arith, min, nat_le, Option, Some, None, Result, Ok, Err, find, lit<, lit≤}
+use Rattle.std.proofs.Common.{ℕ, zero, suc, List, [], ◌∷◌, ◌≤◌, ◌<◌, Bool, true, false, cond, ◌≡◌, refl, ap, sym, ◌∙◌, subst, length, take, arith, min, nat_le, nat_lt, Option, Some, None, Result, Ok, Err, find, lit<, lit≤}
 use Rattle.std.proofs.lemmas.List.{length-take-le}
 use Rattle.std.proofs.lemmas.Bool.Decides.{nat_tests}
 use Rattle.std.proofs.Math.Seq.{take-length}
@@ -10,19 +10,22 @@ use Rattle.load_model.specs.World.{World, file_at, is_other, kind_of_file}
 use Rattle.load_model.specs.declared.world.WorldFile.{WorldFile}
 use Rattle.ports.specs.Reading.{bytes_at, bytes_of, found_at, found_of}
 use Rattle.ports.specs.declared.trees.Found.TheVariants.{Absent, File}
+use Rattle.byte_view.specs.Checks.{flaw}
+use Rattle.byte_view.specs.HeaderFlaws.{header_flaw, ident_flaw}
+use Rattle.byte_view.specs.declared.constants.TheConstants.{LONGEST_FILE}
+use Rattle.appdir_cli.specs.declared.refusal.Refusal.TheVariants.{Damaged as DamagedFile}
 use Rattle.appdir_cli.proofs.Lists.{take_within}
-use Rattle.appdir_cli.specs.FileHeader.{has_thin_header}
-use Rattle.appdir_cli.specs.ThinForm.{has_thin_form, thin_face_of}
-use Rattle.appdir_cli.specs.declared.thin_form.ThinFace.{ThinFace}
-use Rattle.appdir_cli.specs.declared.thin_form.ThinFault.{ThinFault}
-use Rattle.appdir_cli.specs.declared.thin_form.ThinFault.TheVariants.{NotThin}
+use Rattle.appdir_cli.specs.ThinFaces.{flaw_in, thin_face_of}
+use Rattle.appdir_cli.specs.declared.thin_faces.ThinFace.{ThinFace}
+use Rattle.appdir_cli.specs.declared.thin_faces.Unread.{Unread}
+use Rattle.appdir_cli.specs.declared.thin_faces.Unread.TheVariants.{Flawed}
 use Rattle.std.specs.Prelude.{IfOk, IfErr}
 use Rattle.ports.specs.Told.{WhereTold}
 use Rattle.appdir_cli.specs.declared.stop.Stop.{Stop}
 use Rattle.appdir_cli.specs.declared.stop.Stop.TheVariants.{Refused, Read, NoMemory}
 use Rattle.appdir_cli.specs.Opening.{EM_X86_64, HasFile, IsReadCause, opened_at, opened_of, seen, seen_as}
 use Rattle.appdir_cli.specs.declared.opening.Opened.{Opened}
-use Rattle.appdir_cli.specs.declared.opening.Opened.TheVariants.{Passed, Damaged}
+use Rattle.appdir_cli.specs.declared.opening.Opened.TheVariants.{Passed, Refused as Unreadable}
 
 found_in_rest : (path : List ℕ) (f file : WorldFile) (fs : List WorldFile) → (b : Bool) → bytes_eq f.path path ≡ b → (find (λ g. bytes_eq g.path path) fs ≡ Some file → file.path ≡ path) → cond b (Some f) (find (λ g. bytes_eq g.path path) fs) ≡ Some file → file.path ≡ path
 found_in_rest path f file fs true e more h =
@@ -96,7 +99,7 @@ other_front world path id front len file front_is b h =
       | false ↦ λ e. (let small : length bytes < 20 = grind (arith, nat_tests) in let n : min (length bytes) 20 ≡ length bytes = omega arith in ap (λ i. is_other k (take i bytes)) n ∙ ap (λ l. is_other k l) (take-length bytes))
     ] refl
 
-opened_right : (file : WorldFile) (r : Result ThinFace ThinFault) → is_other EM_X86_64 file.bytes ≡ false → thin_face_of file.bytes ≡ r → opened_of (kind_of_file thin_face_of EM_X86_64 (Some file)) ≡ seen_as file r
+opened_right : (file : WorldFile) (r : Result ThinFace Unread) → is_other EM_X86_64 file.bytes ≡ false → thin_face_of file.bytes ≡ r → opened_of (kind_of_file thin_face_of EM_X86_64 (Some file)) ≡ seen_as file r
 opened_right file (Ok face) right e = rw (right, e) refl
 opened_right file (Err fault) right e = rw (right, e) refl
 
@@ -110,22 +113,25 @@ opened_passed world path id len file other =
     let e : is_other EM_X86_64 file.file.bytes ≡ true = ap (λ l. is_other EM_X86_64 l) (sym (bytes_are world path id len file)) ∙ other in
     sym (file_opened world path file.file file.lies ∙ rw e refl)
 
--- a file that is too long cannot be read
-too_long : (bytes : List ℕ) → 536870912 < length bytes → thin_face_of bytes ≡ Err NotThin
-unfolding thin_face_of has_thin_form has_thin_header
-too_long bytes h = elim (nat_le 64 (length bytes)) as (λ b. nat_le 64 (length bytes) ≡ b → thin_face_of bytes ≡ Err NotThin) [
-  | true ↦ λ e. rw (e, le_false (length bytes) 536870912 h) refl
-  | false ↦ λ e. rw e refl
-] refl
+lt_true : (a b : ℕ) → a < b → nat_lt a b ≡ true
+lt_true a b h = grind (arith, nat_tests)
+
+-- a file that is too long is not read
+too_long : (bytes : List ℕ) → LONGEST_FILE < length bytes → thin_face_of bytes ≡ Err (Flawed (flaw 34 (length bytes) 0))
+unfolding thin_face_of flaw_in header_flaw ident_flaw
+too_long bytes h = rw (lt_true LONGEST_FILE (length bytes) h) refl
 
 right_here : (world : World) (path id : List ℕ) (len : ℕ) (file : HasFile world path id len) → is_other EM_X86_64 (bytes_at world path) ≡ false → is_other EM_X86_64 file.file.bytes ≡ false
 right_here world path id len file right = ap (λ l. is_other EM_X86_64 l) (sym (bytes_are world path id len file)) ∙ right
 
-pub opened_long : (world : World) (path id : List ℕ) (len : ℕ) → HasFile world path id len → is_other EM_X86_64 (bytes_at world path) ≡ false → 536870912 < len → Damaged ≡ opened_at world path
+pub opened_long : (world : World) (path id : List ℕ) (len : ℕ) → HasFile world path id len → is_other EM_X86_64 (bytes_at world path) ≡ false → LONGEST_FILE < len → Unreadable (DamagedFile path (flaw 34 len 0)) ≡ opened_at world path
 opened_long world path id len file right long =
-    let big : 536870912 < length file.file.bytes = omega (arith, file.len_is) in
-    let unread : thin_face_of file.file.bytes ≡ Err NotThin = too_long file.file.bytes big in
-    sym (file_opened world path file.file file.lies ∙ opened_right file.file (Err NotThin) (right_here world path id len file right) unread)
+    let big : LONGEST_FILE < length file.file.bytes = omega (arith, file.len_is) in
+    let unread : thin_face_of file.file.bytes ≡ Err (Flawed (flaw 34 (length file.file.bytes) 0)) = too_long file.file.bytes big in
+    sym (file_opened world path file.file file.lies
+    ∙ opened_right file.file (Err (Flawed (flaw 34 (length file.file.bytes) 0))) (right_here world path id len file right) unread
+    ∙ ap (λ p. Unreadable (DamagedFile p (flaw 34 (length file.file.bytes) 0))) file.path_is
+    ∙ ap (λ k. Unreadable (DamagedFile path (flaw 34 k 0))) file.len_is)
 
 -- what is seen in the bytes that were read is what is to be seen at the path
 pub opened_seen : (world : World) (path id bytes : List ℕ) (len : ℕ) → HasFile world path id len → is_other EM_X86_64 (bytes_at world path) ≡ false → bytes ≡ take len (bytes_at world path) → seen path id bytes ≡ opened_at world path

@@ -13,9 +13,9 @@ use Rattle.load_model.proofs.Listed.{run_goes, start as first_object}
 use Rattle.load_model.proofs.Opened.{opens_asked}
 use Rattle.ports.specs.declared.folders.MemFile.{MemFile}
 use Rattle.appdir_cli.specs.Endings.{Ends, Outside}
-use Rattle.appdir_cli.specs.Opening.{EM_X86_64}
-use Rattle.appdir_cli.specs.Outcome.{MOST_OBJECTS, app_run, default_dirs, hosts_of, is_startable, linked, not_thin, outcome_of, package_of, program_of, run_by, start_as, start_of, stops}
-use Rattle.appdir_cli.specs.ThinForm.{thin_face_of}
+use Rattle.appdir_cli.specs.Opening.{EM_X86_64, not_read}
+use Rattle.appdir_cli.specs.Outcome.{MOST_OBJECTS, app_run, default_dirs, hosts_of, is_startable, linked, outcome_of, package_of, program_of, run_by, start_as, start_of, stops}
+use Rattle.appdir_cli.specs.ThinFaces.{thin_face_of}
 use Rattle.appdir_cli.specs.TwoWorlds.{GoesToFirstRight, IsCopyOrAskedFor, IsHost, IsPortable, RunsAlike, RunsAlikeBy, RunsThere, command_there, copy_path, loaded_there, start_there}
 use Rattle.appdir_cli.specs.Words.{command_of}
 use Rattle.appdir_cli.specs.declared.package.Package.{Package}
@@ -24,7 +24,7 @@ use Rattle.appdir_cli.specs.declared.refusal.Refusal.TheVariants.{NotBuilt}
 use Rattle.appdir_cli.specs.declared.starting.Start.{Start}
 use Rattle.appdir_cli.specs.declared.status.Status.{Status}
 use Rattle.appdir_cli.specs.declared.status.Status.TheVariants.{Done}
-use Rattle.appdir_cli.specs.declared.thin_form.ThinFace.{ThinFace}
+use Rattle.appdir_cli.specs.declared.thin_faces.ThinFace.{ThinFace}
 use Rattle.appdir_cli.specs.declared.words.Quick.{Quick}
 use Rattle.appdir_cli.proofs.WordsLemmas.{plain_names}
 
@@ -137,24 +137,24 @@ plain_copy = no_slash (codes "AppRun") (IsFileName-from_test (codes "AppRun") re
 -- the promise of packing, for the words of a call
 pub runs_alike : (words : List (List ℕ)) (world : World) → RunsAlike (command_of words) world
 unfolding RunsAlike
-runs_alike words world command asked = runs_alike_by thin_face_of not_thin world default_dirs command (plain_names words command asked) plain_copy
+runs_alike words world command asked = runs_alike_by thin_face_of not_read world default_dirs command (plain_names words command asked) plain_copy
 
 -- what is packed is the copy of a program that can be started and whose list has no stop
 record IsPacked (world : World) (command : Quick) (packed : Package) : Type 0 where
   start : Start
   here : Loaded
   starts : start_of world command ≡ Ok start
-  run : run_by thin_face_of not_thin world default_dirs command.names start ≡ Ok here
+  run : run_by thin_face_of not_read world default_dirs command.names start ≡ Ok here
   items : packed.items ≡ app_run start.file ∷ []
 
-run_packed : (world : World) (command : Quick) (packed : Package) (start : Start) (r : Result Loaded Refusal) → start_of world command ≡ Ok start → run_by thin_face_of not_thin world default_dirs command.names start ≡ r → next (next r (λ loaded. Ok (length loaded.objs - 1))) (λ hosts. Ok (package_of start hosts)) ≡ Ok packed → IsPacked world command packed
+run_packed : (world : World) (command : Quick) (packed : Package) (start : Start) (r : Result Loaded Refusal) → start_of world command ≡ Ok start → run_by thin_face_of not_read world default_dirs command.names start ≡ r → next (next r (λ loaded. Ok (length loaded.objs - 1))) (λ hosts. Ok (package_of start hosts)) ≡ Ok packed → IsPacked world command packed
 run_packed world command packed start (Ok here) starts run h =
     let is : package_of start (length here.objs - 1) ≡ packed = cc in
     record { start = start; here = here; starts = starts; run = run; items = ap (λ (p : Package). p.items) (sym is) }
 run_packed world command packed start (Err refusal) starts run h = absurd (cc)
 
 start_packed : (world : World) (command : Quick) (packed : Package) (r : Result Start Refusal) → start_of world command ≡ r → next r (λ start. next (hosts_of world command.names start) (λ hosts. Ok (package_of start hosts))) ≡ Ok packed → IsPacked world command packed
-start_packed world command packed (Ok start) starts h = run_packed world command packed start (run_by thin_face_of not_thin world default_dirs command.names start) starts refl h
+start_packed world command packed (Ok start) starts h = run_packed world command packed start (run_by thin_face_of not_read world default_dirs command.names start) starts refl h
 start_packed world command packed (Err refusal) starts h = absurd (cc)
 
 is_packed : (world : World) (command : Quick) (packed : Package) → outcome_of world command ≡ Ok packed → IsPacked world command packed

@@ -1,14 +1,11 @@
-pub mod DynamicTable
+pub mod Damage
 pub mod Endings
-pub mod FileHeader
 pub mod Lines
 pub mod Loading
-pub mod Numbers
 pub mod Opening
 pub mod Outcome
-pub mod ProgramHeaders
 pub mod Status
 pub mod Step
-pub mod ThinForm
+pub mod ThinFaces
 pub mod TwoWorlds
 pub mod Words

@@ -3,7 +3,8 @@ use Rattle.std.specs.Prelude.{ℕ, List, [], ◌∷◌, ◌++◌, codes}
 use Rattle.std.specs.Fmt.{decimal}
 use Rattle.load_model.specs.Escaping.{escaped}
 use Rattle.appdir_cli.specs.declared.refusal.Refusal.{Refusal}
-use Rattle.appdir_cli.specs.declared.refusal.Refusal.TheVariants.{NoProgram, MissingLibrary, NotEmpty, NotBuilt}
+use Rattle.appdir_cli.specs.Damage.{flaw_text}
+use Rattle.appdir_cli.specs.declared.refusal.Refusal.TheVariants.{NoProgram, Damaged, MissingLibrary, NotEmpty, NotBuilt}
 
 -- the line for words of no shape
 abbrev pub usage_text : List ℕ
@@ -12,6 +13,7 @@ usage_text = codes "usage: appdir quick PROGRAM OUT [NAME ..] | build CONFIG OUT
 -- the line that says a refusal, with its evidence
 abbrev pub refusal_line : Refusal → List ℕ
 refusal_line (NoProgram path) = codes "refused 10: no program at " ++ (escaped path ++ 10 ∷ [])
+refusal_line (Damaged path flaw) = codes "refused 11: damaged " ++ (escaped path ++ (codes ": " ++ (flaw_text flaw ++ 10 ∷ [])))
 refusal_line (MissingLibrary name path) =
     codes "refused 16: missing library " ++ (escaped name ++ (codes " needed by " ++ (escaped path ++ 10 ∷ [])))
 refusal_line (NotEmpty path) = codes "refused 49: " ++ (escaped path ++ (codes " is not empty" ++ 10 ∷ []))

@@ -8,19 +8,19 @@ use Rattle.load_model.specs.World.{World}
 use Rattle.load_model.specs.LoadList.{is_named, next}
 use Rattle.load_model.specs.ListedSearch.{first_right, is_listed, listed_paths, may_be}
 use Rattle.load_model.specs.declared.world.WorldFile.{WorldFile}
-use Rattle.appdir_cli.specs.Opening.{EM_X86_64}
+use Rattle.appdir_cli.specs.Opening.{EM_X86_64, not_read}
 use Rattle.appdir_cli.specs.Outcome.{MOST_OBJECTS}
-use Rattle.appdir_cli.specs.ThinForm.{thin_face_of}
+use Rattle.appdir_cli.specs.ThinFaces.{thin_face_of}
 use Rattle.appdir_cli.specs.declared.loading.LoadedObject.{LoadedObject}
 use Rattle.appdir_cli.specs.declared.opening.Opened.{Opened}
-use Rattle.appdir_cli.specs.declared.opening.Opened.TheVariants.{Passed, Damaged as Unreadable, Object as Loadable}
+use Rattle.appdir_cli.specs.declared.opening.Opened.TheVariants.{Passed, Refused as Unreadable, Object as Loadable}
 use Rattle.appdir_cli.specs.declared.refusal.Refusal.{Refusal}
 use Rattle.appdir_cli.specs.declared.refusal.Refusal.TheVariants.{MissingLibrary, NotBuilt}
 use Rattle.appdir_cli.specs.declared.starting.Start.{Start}
 use Rattle.appdir_cli.specs.declared.stop.Stop.{Stop}
 use Rattle.appdir_cli.specs.declared.stop.Stop.TheVariants.{Refused, Read, NoMemory}
-use Rattle.appdir_cli.specs.declared.thin_form.ThinFace.{ThinFace}
-use Rattle.appdir_cli.specs.declared.thin_form.ThinFault.{ThinFault}
+use Rattle.appdir_cli.specs.declared.thin_faces.ThinFace.{ThinFace}
+use Rattle.appdir_cli.specs.declared.thin_faces.Unread.{Unread}
 
 -- a directory in normal form and the name of a file join to a path in normal form
 pub record AreSearched (dirs names : List (List ℕ)) : Type 0 where
@@ -30,9 +30,9 @@ pub record AreSearched (dirs names : List (List ℕ)) : Type 0 where
 
 -- ---- a file for a name
 
-abbrev pub seen_by : WorldFile → Result ThinFace ThinFault → Result (WorldFile × ThinFace) Refusal
+abbrev pub seen_by : WorldFile → Result ThinFace Unread → Result (WorldFile × ThinFace) Refusal
 seen_by file (Ok face) = Ok (file, face)
-seen_by file (Err fault) = Err NotBuilt
+seen_by file (Err fault) = Err (not_read file.path fault)
 
 abbrev pub decided : List ℕ → List ℕ → Option WorldFile → Result (WorldFile × ThinFace) Refusal
 decided name asker None = Err (MissingLibrary name asker)
@@ -45,7 +45,7 @@ found_in world dirs name asker = decided name asker (first_right EM_X86_64 world
 -- a path that is passed over leaves the answer to the next directory
 abbrev pub or_later : Opened → Result (WorldFile × ThinFace) Refusal → Result (WorldFile × ThinFace) Refusal
 or_later Passed later = later
-or_later Unreadable later = Err NotBuilt
+or_later (Unreadable refusal) later = Err refusal
 or_later (Loadable file face) later = Ok (file, face)
 
 -- ---- the objects

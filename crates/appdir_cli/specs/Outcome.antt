@@ -6,11 +6,10 @@ use Rattle.load_model.specs.LoadList.{Object as Loadable, Loaded, next, run, tar
 use Rattle.load_model.specs.ListedSearch.{Linked, Stops, is_listed, listed_search}
 use Rattle.load_model.specs.declared.world.WorldFile.{WorldFile}
 use Rattle.ports.specs.declared.folders.MemFile.{MemFile}
-use Rattle.appdir_cli.specs.Opening.{EM_X86_64}
-use Rattle.appdir_cli.specs.ThinForm.{thin_face_of}
+use Rattle.appdir_cli.specs.Opening.{EM_X86_64, not_read}
+use Rattle.appdir_cli.specs.ThinFaces.{thin_face_of}
 use Rattle.appdir_cli.specs.Words.{path_in}
-use Rattle.appdir_cli.specs.declared.thin_form.ThinFace.{ThinFace}
-use Rattle.appdir_cli.specs.declared.thin_form.ThinFault.{ThinFault}
+use Rattle.appdir_cli.specs.declared.thin_faces.ThinFace.{ThinFace}
 use Rattle.appdir_cli.specs.declared.package.Package.{Package}
 use Rattle.appdir_cli.specs.declared.starting.Start.{Start}
 use Rattle.appdir_cli.specs.declared.refusal.Refusal.{Refusal}
@@ -99,16 +98,12 @@ module _ {X : Type 0} (read : List ℕ → Result ThinFace X) (unread : List ℕ
       next (hosts_by world command.names start) (λ hosts.
       Ok (package_of start hosts)))
 
--- a file that is not of the thin form is not packed yet
-abbrev pub not_thin : List ℕ → ThinFault → Refusal
-not_thin path fault = NotBuilt
-
 abbrev pub start_of : World → Quick → Result Start Refusal
-start_of world command = start_by thin_face_of not_thin world command
+start_of world command = start_by thin_face_of not_read world command
 
 abbrev pub hosts_of : World → List (List ℕ) → Start → Result ℕ Refusal
-hosts_of world names start = hosts_by thin_face_of not_thin world names start
+hosts_of world names start = hosts_by thin_face_of not_read world names start
 
 -- the AppDir of the program, or the first refusal
 unfoldable pub outcome_of : World → Quick → Result Package Refusal
-outcome_of world command = outcome_by thin_face_of not_thin world command
+outcome_of world command = outcome_by thin_face_of not_read world command

@@ -7,12 +7,12 @@ use Rattle.load_model.specs.LoadList.{Object as Loadable, Asked, Loaded}
 use Rattle.load_model.specs.ListedSearch.{HasFile, IsOpened, IsUpToRight, first_right, joined, listed_paths, name_of, objects_there}
 use Rattle.load_model.specs.declared.world.WorldFile.{WorldFile}
 use Rattle.ports.specs.declared.folders.MemFile.{MemFile}
-use Rattle.appdir_cli.specs.Opening.{EM_X86_64}
-use Rattle.appdir_cli.specs.Outcome.{app_run, default_dirs, linked, not_thin, run_by, start_by, start_of}
-use Rattle.appdir_cli.specs.ThinForm.{thin_face_of}
+use Rattle.appdir_cli.specs.Opening.{EM_X86_64, not_read}
+use Rattle.appdir_cli.specs.Outcome.{app_run, default_dirs, linked, run_by, start_by, start_of}
+use Rattle.appdir_cli.specs.ThinFaces.{thin_face_of}
 use Rattle.appdir_cli.specs.declared.refusal.Refusal.{Refusal}
 use Rattle.appdir_cli.specs.declared.starting.Start.{Start}
-use Rattle.appdir_cli.specs.declared.thin_form.ThinFace.{ThinFace}
+use Rattle.appdir_cli.specs.declared.thin_faces.ThinFace.{ThinFace}
 use Rattle.appdir_cli.specs.declared.words.Quick.{Quick}
 
 -- where the copy of the program lies, when the AppDir is in this place
@@ -92,7 +92,7 @@ module _ {X : Type 0} (read : List ℕ → Result ThinFace X) (unread : List ℕ
 
 -- what packing promises of every host
 unfoldable pub RunsAlike : Option Quick → World → Type 0
-RunsAlike asked world = (command : Quick) → asked ≡ Some command → RunsAlikeBy thin_face_of not_thin world default_dirs command
+RunsAlike asked world = (command : Quick) → asked ≡ Some command → RunsAlikeBy thin_face_of not_read world default_dirs command
 
 -- These files are the copy of the program alone, which can be started in this world and whose load list has no stop; and
 -- on every such host it loads the same.
@@ -102,6 +102,6 @@ pub record IsPortable (asked : Option Quick) (world : World) (files : List MemFi
   pub start : Start
   pub here : Loaded
   pub starts : start_of world command ≡ Ok start
-  pub run : run_by thin_face_of not_thin world default_dirs command.names start ≡ Ok here
+  pub run : run_by thin_face_of not_read world default_dirs command.names start ≡ Ok here
   pub files_are : files ≡ app_run start.file ∷ []
-  pub hosts : RunsOnHosts thin_face_of not_thin command start here
+  pub hosts : RunsOnHosts thin_face_of not_read command start here

@@ -2,6 +2,7 @@
 #![tactic(auto)]
 
 mod copies;
+mod damage;
 mod loading;
 mod opening;
 mod package;
@@ -13,7 +14,7 @@ mod status;
 mod stop;
 #[cfg(test)]
 mod tests;
-mod thin_form;
+mod thin_faces;
 mod top;
 mod words;
 mod writing;

@@ -14,7 +14,7 @@ use crate::copies::copy_path;
 use crate::refusal::Refusal;
 use crate::starting::{Start, is_listed};
 use crate::stop::Stop;
-use crate::thin_form::ThinFace;
+use crate::thin_faces::ThinFace;
 use directories::{default_dirs, search};
 use load_model::{List, Name, WorldFile};
 use path_text::{Abs, NoMemory};

@@ -2,27 +2,28 @@ ghost use Rattle.std.specs.Prelude.{◌≡◌, ◌≤◌, ◌<◌, IfOk, IfErr, 
 ghost use Rattle.load_model.specs.World.{is_for, is_other};
 ghost use Rattle.ports.specs.Told.{WhereTold};
 ghost use Rattle.ports.specs.Reading.{bytes_at};
-ghost use Rattle.appdir_cli.specs.Opening.{EM_X86_64, HasFile, IsReadCause, opened_at, seen};
+ghost use Rattle.appdir_cli.specs.Opening.{EM_X86_64, HasFile, IsReadCause, not_read, opened_at, seen};
+ghost use Rattle.byte_view.specs.Checks.{flaw};
 
 use crate::copies::copy_path;
+use crate::refusal::Refusal;
 use crate::stop::Stop;
-use crate::thin_form::{ThinFace, ThinFault, thin_face};
+use crate::thin_faces::{ThinFace, ThinFault, Unread, thin_face};
+use byte_view::Flaw;
+use byte_view::constants::LONGEST_FILE;
 use load_model::{Name, Text, WorldFile};
-use path_text::Abs;
+use path_text::{Abs, NoMemory};
 use ports::{Found, ProbeStop, Tree};
 use std::alloc::Global;
-
-/// The length in bytes above which a file is no object file.
-const LONGEST_OBJECT: u64 = 536_870_912;
 
 /// How many bytes are read at once.
 const WINDOW: usize = 65_536;
 
-/// What a loader finds at a path: nothing for it, a file that it cannot read, or an object.
+/// What a loader finds at a path: nothing for it, a file that is refused, or an object.
 #[derive(Drop)]
 pub enum Opened {
     Passed,
-    Damaged,
+    Refused(Refusal),
     Object(WorldFile, ThinFace),
 }
 
@@ -79,11 +80,33 @@ fn open_object<T: Tree>(
     ensures never_falls { T.faults tree.old ≤ T.faults tree.new }
     ensures world_stays { T.told tree.new ≡ T.told tree.old }
 {
-    if len > LONGEST_OBJECT {
-        return Ok(Opened::Damaged);
+    if len > LONGEST_FILE {
+        return Ok(Opened::Refused(too_big(alloc, path, len)?));
     }
     let bytes = read_front(alloc, tree, path, len, window)?;
     see(alloc, path, id, bytes)
+}
+
+/// Why a file of this length is not read.
+fn too_big(alloc: Global, path: &Abs, len: u64) -> Result<Refusal, NoMemory>
+    ensures { IfOk result (λ refusal. refusal ≡ Refusal.Damaged path.now (flaw 34 len 0)) }
+{
+    let flaw = Flaw {
+        code: 34,
+        a: len,
+        b: 0,
+    };
+    Ok(Refusal::Damaged(copy_path(alloc, path)?, flaw))
+}
+
+/// Why a file without a thin face is refused.
+fn not_read(alloc: Global, path: &Abs, reason: Unread) -> Result<Refusal, NoMemory>
+    ensures { IfOk result (λ refusal. refusal ≡ not_read path.now reason) }
+{
+    match reason {
+        Unread::Flawed(flaw) => Ok(Refusal::Damaged(copy_path(alloc, path)?, flaw)),
+        Unread::HasRunPath => Ok(Refusal::NotBuilt),
+    }
 }
 
 /// The first `len` bytes of the file at a path.
@@ -161,7 +184,7 @@ fn see(alloc: Global, path: &Abs, id: Name, bytes: Vec<u8>) -> Result<Opened, St
             let bytes = Text::from_vec(bytes);
             Ok(Opened::Object(WorldFile { path, id, bytes }, face))
         }
-        Err(ThinFault::NotThin) => Ok(Opened::Damaged),
+        Err(ThinFault::Unread(reason)) => Ok(Opened::Refused(not_read(alloc, path, reason)?)),
         Err(ThinFault::NoMemory) => Err(Stop::NoMemory),
     }
 }

@@ -2,6 +2,8 @@ ghost use Rattle.std.specs.Prelude.{◌≡◌, ◌++◌, IfOk};
 ghost use Rattle.load_model.specs.Escaping.{escaped};
 ghost use Rattle.appdir_cli.specs.Lines.{done_line, refusal_line, usage_text};
 
+use crate::damage::flaw_text;
+use byte_view::Flaw;
 use load_model::{Name, Text, escape};
 use path_text::{Abs, NoMemory};
 use std::alloc::Global;
@@ -11,6 +13,8 @@ use std::alloc::Global;
 pub enum Refusal {
     /// No file lies at the path, or one for another machine.
     NoProgram(Abs),
+    /// The file at the path has this flaw.
+    Damaged(Abs, Flaw),
     /// The library that this object needs stands in no listed directory.
     MissingLibrary(Name, Abs),
     /// The output folder holds files.
@@ -35,6 +39,7 @@ pub fn refusal_text(alloc: Global, refusal: &Refusal) -> Result<Text, NoMemory>
             let path = path.as_str().as_bytes();
             line_with(alloc, b"refused 10: no program at ", path, b"\n")
         }
+        Refusal::Damaged(path, flaw) => damaged_text(alloc, path, flaw),
         Refusal::MissingLibrary(name, path) => missing_text(alloc, name, path),
         Refusal::NotEmpty(path) => {
             let path = path.as_str().as_bytes();
@@ -42,6 +47,17 @@ pub fn refusal_text(alloc: Global, refusal: &Refusal) -> Result<Text, NoMemory>
         }
         Refusal::NotBuilt => Text::from_bytes(alloc, b"refused 55: not built yet\n"),
     }
+}
+
+fn damaged_text(alloc: Global, path: &Abs, flaw: &Flaw) -> Result<Text, NoMemory>
+    ensures { IfOk result (λ line. line ≡ refusal_line (Refusal.Damaged path.now flaw.now)) }
+{
+    let flaw = flaw_text(alloc, flaw)?;
+    let path = path.as_str().as_bytes();
+    let mut end = Vec::from_slice(alloc, b": ")?;
+    end.extend_from_slice(flaw.as_bytes())?;
+    end.extend_from_slice(b"\n")?;
+    line_with(alloc, b"refused 11: damaged ", path, end.as_slice())
 }
 
 fn missing_text(alloc: Global, name: &Name, path: &Abs) -> Result<Text, NoMemory>

@@ -8,7 +8,7 @@ use crate::copies::copy_path;
 use crate::opening::{Opened, open};
 use crate::refusal::Refusal;
 use crate::stop::Stop;
-use crate::thin_form::ThinFace;
+use crate::thin_faces::ThinFace;
 use crate::words::Quick;
 use load_model::{Name, WorldFile};
 use path_text::{Abs, NoMemory, PathFault};
@@ -33,7 +33,7 @@ pub fn read_start<T: Tree>(alloc: Global, tree: &mut T, command: &Quick) -> Resu
             let path = copy_path(alloc, &command.program)?;
             Err(Stop::Refused(Refusal::NoProgram(path)))
         }
-        Opened::Damaged => Err(Stop::Refused(Refusal::NotBuilt)),
+        Opened::Refused(refusal) => Err(Stop::Refused(refusal)),
         Opened::Object(file, face) => {
             if is_startable(alloc, command.names.as_slice(), &face)? {
                 Ok(Start { file, face })

@@ -1,9 +1,11 @@
+pub(crate) mod made;
 pub(crate) mod outside;
 
-use crate::thin_form::made::{library, program};
 use crate::{Status, exit_number, status_name};
+use made::{library, program};
 use outside::*;
 use path_text::{Abs, Rel};
+use std::alloc::Global;
 use std::test::Fail;
 
 const TWO_HOSTS: &str = "done: 1 files, 0 bundled, 2 host libraries\n";
@@ -49,6 +51,70 @@ fn missing_files_are_named(rt: HostRuntime) -> Result<(), Fail> {
     for (absent, line) in rows {
         let outside = host_without(alloc, absent)?;
         assert!(rt; refuses(alloc, outside, &PACK, line)?, "{line}");
+    }
+    Ok(())
+}
+
+/// Whether the damaged file at a path is refused with this flaw.
+fn is_damaged(alloc: Global, path: &str, bytes: &[u8], flaw: &str) -> Result<bool, Fail> {
+    let mut outside = host_without(alloc, path)?;
+    add(alloc, &mut outside, path, path, bytes)?;
+    let line = format!(in alloc; "refused 11: damaged {path}: {flaw}\n")?;
+    refuses(alloc, outside, &PACK, line.as_str())
+}
+
+#[test]
+fn damaged_program_is_refused(rt: HostRuntime) -> Result<(), Fail> {
+    let alloc = rt.alloc();
+    let rows = [
+        (6, b"\x02".as_slice(), "IdentVersion 2"),
+        (56, b"\xff\xff", "HeaderSize 56"),
+        (
+            32,
+            b"\xff\xff\xff\xff\xff\xff\xff\xff",
+            "Short 18446744073709551615 488",
+        ),
+        (192, b"\x01", "SegmentRange 2"),
+        (176, b"\0", "NoLoad"),
+        (232, b"\0", "NoDynamic"),
+        (120, b"\x02", "TwoDynamic 3"),
+        (472, b"\x15", "NoEnd"),
+        (376, b"\xff\xff\xff\x7f", "TagRefused 2147483647"),
+        (456, b"\x05", "Repeated 5"),
+        (456, b"\x15", "MissingTag 11"),
+        (448, b"\0", "StringsRange"),
+        (330, b"A", "StringsEnd"),
+        (384, b"\x0b", "StringPlace 11"),
+    ];
+    for (place, change, flaw) in rows {
+        let mut bytes = program(alloc, &["libc.so.6"])?;
+        for (i, byte) in change.iter().enumerate() {
+            if let Some(at) = bytes.get_mut(i.wrapping_add(place)) {
+                *at = *byte;
+            }
+        }
+        assert!(rt; is_damaged(alloc, APP, bytes.as_slice(), flaw)?, "{flaw}");
+    }
+    Ok(())
+}
+
+#[test]
+fn cut_files_are_refused(rt: HostRuntime) -> Result<(), Fail> {
+    let alloc = rt.alloc();
+    let bytes = program(alloc, &["libc.so.6"])?;
+    let rows = [
+        (0, "NotElf"),
+        (63, "Short 64 63"),
+        (287, "Short 288 287"),
+        (487, "SegmentRange 2"),
+    ];
+    for (cut, flaw) in rows {
+        let front = bytes.as_slice().get(..cut).unwrap_or(&[]);
+        assert!(rt; is_damaged(alloc, APP, front, flaw)?, "{flaw}");
+        assert!(rt;
+            is_damaged(alloc, LIBC, front, flaw)?,
+            "{flaw} of a library"
+        );
     }
     Ok(())
 }

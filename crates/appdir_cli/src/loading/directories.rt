@@ -10,7 +10,7 @@ use crate::copies::copy_path;
 use crate::opening::{Opened, open};
 use crate::refusal::Refusal;
 use crate::stop::Stop;
-use crate::thin_form::ThinFace;
+use crate::thin_faces::ThinFace;
 use load_model::{List, Name, WorldFile};
 use path_text::{Abs, NoMemory, PathFault};
 use ports::Tree;
@@ -63,7 +63,7 @@ pub fn search<T: Tree>(
         let path = path_in(alloc, dir, name)?;
         match open(alloc, tree, &path)? {
             Opened::Passed => {}
-            Opened::Damaged => return Err(Stop::Refused(Refusal::NotBuilt)),
+            Opened::Refused(refusal) => return Err(Stop::Refused(refusal)),
             Opened::Object(file, face) => return Ok((file, face)),
         }
     }

@@ -2,8 +2,8 @@
 use super::directories::default_dirs;
 use super::{LoadedObject, copied_program, has_name, walk};
 use crate::starting::read_start;
+use crate::tests::made::{library, program};
 use crate::tests::outside::{APP, CLASS_32, Outside, add, nothing};
-use crate::thin_form::made::{library, program};
 use crate::words::read_words;
 use load_model::{List, Name};
 use ports::MemTree;

@@ -1,5 +1,5 @@
 //! A tree, a folder and a sink in memory, and calls over them.
-use crate::thin_form::made::{library, program};
+use super::made::{library, program};
 use crate::{Status, appdir_main};
 use load_model::Name;
 use path_text::{Abs, NoMemory, Rel};

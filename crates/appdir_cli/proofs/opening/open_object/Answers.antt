@@ -1,11 +1,13 @@
-use Rattle.std.proofs.Common.{arith, ◌≡◌, length}
+use Rattle.std.proofs.Common.{arith, ◌≡◌, ◌∙◌, ap, length}
+use Rattle.appdir_cli.specs.declared.opening.Opened.TheVariants.{Refused}
 use Rattle.ports.specs.Reading.{bytes_at}
 use Rattle.appdir_cli.proofs.OpeningLemmas.{bytes_len, memory_cause, opened_long, opened_seen, result_opened}
 use Rattle.appdir_cli.proofs.opening.open_object.Goals as goal
 
-pub returns-then-len-gt-LONGEST_OBJECT-clause-opened : goal.returns-then-len-gt-LONGEST_OBJECT-clause-opened
-returns-then-len-gt-LONGEST_OBJECT-clause-opened g c world told =
-    opened_long world c.args.path.now c.args.id c.args.len (c.requires.file world told) (c.requires.right world told) c.if-len-gt-LONGEST_OBJECT.true
+pub returns-then-len-gt-LONGEST_FILE-clause-opened : goal.returns-then-len-gt-LONGEST_FILE-clause-opened
+returns-then-len-gt-LONGEST_FILE-clause-opened g c world told =
+    ap (λ r. Refused r) c.in_ok-too_big.ensures
+    ∙ opened_long world c.args.path.now c.args.id c.args.len (c.requires.file world told) (c.requires.right world told) c.if-len-gt-LONGEST_FILE.true
 
 pub read_front-requires-clause-within : goal.read_front-requires-clause-within
 read_front-requires-clause-within g c world told =

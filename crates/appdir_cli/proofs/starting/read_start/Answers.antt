@@ -1,7 +1,7 @@
 use Rattle.std.proofs.Common.{◌≡◌, sym, ◌∙◌, ap, true, false, Err}
 use Rattle.appdir_cli.specs.Outcome.{is_startable}
 use Rattle.appdir_cli.specs.declared.refusal.Refusal.TheVariants.{NoProgram}
-use Rattle.appdir_cli.proofs.StartLemmas.{not_started, start_damaged, start_object, start_passed, started}
+use Rattle.appdir_cli.proofs.StartLemmas.{not_started, start_refused, start_object, start_passed, started}
 use Rattle.appdir_cli.proofs.starting.read_start.Goals as goal
 
 pub returns-in_ok-path-in-Passed-clause-answer : goal.returns-in_ok-path-in-Passed-clause-answer
@@ -9,9 +9,9 @@ returns-in_ok-path-in-Passed-clause-answer g c world told =
     start_passed world c.args.command.now (sym c.in-Passed.is ∙ c.in_ok-open.ensures.opened world told)
     ∙ ap (λ p. Err (NoProgram p)) (sym c.in_ok-path-in-Passed.ensures)
 
-pub returns-in-Damaged-clause-answer : goal.returns-in-Damaged-clause-answer
-returns-in-Damaged-clause-answer g c world told =
-    start_damaged world c.args.command.now (sym c.in-Damaged.is ∙ c.in_ok-open.ensures.opened world told)
+pub returns-in-Refused-clause-answer : goal.returns-in-Refused-clause-answer
+returns-in-Refused-clause-answer g c world told =
+    start_refused world c.args.command.now c.in-Refused.refusal (sym c.in-Refused.is ∙ c.in_ok-open.ensures.opened world told)
 
 pub returns-then-branch-clause-answer : goal.returns-then-branch-clause-answer
 returns-then-branch-clause-answer g c world told =

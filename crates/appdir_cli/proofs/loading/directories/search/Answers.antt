@@ -16,11 +16,11 @@ loop-dir-preserved g c = record {
       ∙ ap (λ k. found_in world (drop k c.args.dirs.now) c.args.name.now c.args.asker.now) one;
 }
 
-pub returns-in-Damaged-clause-answer : goal.returns-in-Damaged-clause-answer
-returns-in-Damaged-clause-answer g c world told =
+pub returns-in-Refused-clause-answer : goal.returns-in-Refused-clause-answer
+returns-in-Refused-clause-answer g c world told =
     let told_here : g.T.Tree.told c.loop-dir.tree ≡ Some world = c.loop-dir.invariant.world ∙ told in
     found_more world c.args.dirs.now c.loop-dir.dir-index c.dir-item.result c.args.name.now c.args.asker.now c.in_ok-path.path c.in_ok-open.field-0 c.loop-dir-test.true c.dir-item.is c.in_ok-path.ensures (c.in_ok-open.ensures.opened world told_here) (c.loop-dir.invariant.left world told)
-    ∙ ap (λ s. or_later s (found_in world (drop (suc c.loop-dir.dir-index) c.args.dirs.now) c.args.name.now c.args.asker.now)) c.in-Damaged.is
+    ∙ ap (λ s. or_later s (found_in world (drop (suc c.loop-dir.dir-index) c.args.dirs.now) c.args.name.now c.args.asker.now)) c.in-Refused.is
 
 pub returns-in-Object-clause-answer : goal.returns-in-Object-clause-answer
 returns-in-Object-clause-answer g c world told =
