@@ -11,3 +11,4 @@ pub mod Listed
 pub mod Carried
 pub mod Opened
 pub mod Joined
+pub mod Selected

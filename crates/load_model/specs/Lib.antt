@@ -5,3 +5,4 @@ pub mod ListedSearch
 pub mod Diamond
 pub mod SymbolWords
 pub mod Hashes
+pub mod Offers

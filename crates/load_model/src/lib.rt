@@ -7,6 +7,7 @@ mod escaping;
 mod faces;
 mod laws;
 mod lists;
+mod offers;
 mod setting;
 mod symbols;
 mod world;
@@ -22,6 +23,7 @@ pub use laws::{
     run_found, run_in_two_worlds, run_is_in_order, run_is_run, stop_is_stop,
 };
 pub use lists::List;
+pub use offers::Offers;
 pub use path_text::NoMemory;
 pub use setting::Setting;
 pub use symbols::{Class, RawSym, Sym, Ver};

@@ -1,0 +1,370 @@
+//! What an object offers to a reference.
+
+ghost use Rattle.std.specs.Prelude.{◌≡◌, ◌==◌, ◌+◌, ◌<◌, ◌&&◌, IfSome, true, false, length, filter};
+ghost use Rattle.std.specs.List.{list_any, position_from};
+ghost use Rattle.std.specs.Option.{option_copied};
+ghost use Rattle.load_model.specs.Offers.{has_version, has_wanted_version, is_accepted, is_candidate, is_early, is_first_version, is_global, is_local, is_offerable, is_one, is_shown, real_syms, suits};
+ghost use Rattle.load_model.specs.SymbolWords.{is_bindable, is_found_by_name, is_shared, is_visible};
+
+use crate::{Class, Face, Sym, Ver};
+use byte_view::constants::{
+    STB_GLOBAL, STB_GNU_UNIQUE, STB_WEAK, STT_COMMON, STT_FUNC, STT_GNU_IFUNC, STT_NOTYPE,
+    STT_OBJECT, STT_TLS, STV_DEFAULT, STV_PROTECTED,
+};
+
+/// What references bind to in an object.
+pub trait Offers {
+    ghost use Rattle.std.specs.Prelude.{◌≡◌, ◌<◌, ◌^◌, length};
+    ghost use Rattle.std.specs.Option.{option_copied};
+    ghost use Rattle.load_model.specs.Offers.{Offered, offer_of};
+
+    // the symbols, and whether there is a table of version indexes
+    ghost offered: { Self → Offered };
+
+    /// The index of the symbol that a reference by this name, with or without a version, binds to here.
+    ///
+    /// It is the least index of those that the rule in `docs/LOADER.md` accepts. Takes no memory.
+    fn offer(&self, name: &[u8], version: Option<&[u8]>, class: Class) -> Option<u32>
+        requires few { length (offered self.now).syms < 2 ^ 32 }
+        ensures { result ≡ offer_of (offered self.now) name.now (option_copied version.entry) class };
+}
+
+impl Offers for Face {
+    ghost offered = { λ face. record { syms = face.syms; versioned = face.versioned } };
+
+    /// Goes through the symbols a fixed number of times.
+    #[tactic(auto, unfolding(crate::specs::Offers::offer_of), using(crate::proofs::Selected::one_further, crate::proofs::Selected::none_further))]
+    fn offer(&self, name: &[u8], version: Option<&[u8]>, class: Class) -> Option<u32> {
+        let syms = real_syms(self.syms.as_slice());
+        match first_accepted(syms, self.versioned, name, version, class) {
+            Some(place) => Some((place + 1) as u32),
+            None => None,
+        }
+    }
+}
+
+/// All but the symbol of index 0, which is none.
+fn real_syms(syms: &[Sym]) -> &[Sym]
+    ensures { result.now ≡ real_syms syms.now }
+{
+    match syms.split_first() {
+        Some((_, later)) => later,
+        None => syms,
+    }
+}
+
+/// The place of the first symbol that is accepted.
+fn first_accepted(
+    syms: &[Sym],
+    versioned: bool,
+    name: &[u8],
+    version: Option<&[u8]>,
+    class: Class,
+) -> Option<usize>
+    ensures place { result ≡ position_from (is_accepted syms.now name.now class versioned (option_copied version.entry)) 0 syms.now }
+    ensures bound { IfSome result (λ i. i < length syms.now) }
+{
+    if !versioned {
+        return first_candidate(syms, name, class);
+    }
+    match version {
+        Some(wanted) => first_of_version(syms, name, wanted, class),
+        None => first_without_version(syms, name, class),
+    }
+}
+
+/// The first candidate's place.
+fn first_candidate(syms: &[Sym], name: &[u8], class: Class) -> Option<usize>
+    ensures place { result ≡ position_from (is_candidate name.now class) 0 syms.now }
+    ensures bound { IfSome result (λ i. i < length syms.now) }
+{
+    syms.iter().position(|s| is_candidate(s, name, class))
+}
+
+/// The place of the first candidate that a reference with this version accepts.
+fn first_of_version(syms: &[Sym], name: &[u8], wanted: &[u8], class: Class) -> Option<usize>
+    ensures place { result ≡ position_from (λ s. is_candidate name.now class s && has_wanted_version wanted.now s) 0 syms.now }
+    ensures bound { IfSome result (λ i. i < length syms.now) }
+{
+    syms.iter().position(|s| is_candidate(s, name, class) && has_wanted_version(s, wanted))
+}
+
+/// The place of the first candidate that a reference without a version accepts.
+#[tactic(auto, using(crate::proofs::Selected::early_first, crate::proofs::Selected::one_shown, crate::proofs::Selected::none_shown))]
+fn first_without_version(syms: &[Sym], name: &[u8], class: Class) -> Option<usize>
+    ensures place { result ≡ position_from (is_accepted syms.now name.now class true None) 0 syms.now }
+    ensures bound { IfSome result (λ i. i < length syms.now) }
+{
+    if let Some(early) = first_early(syms, name, class) {
+        return Some(early);
+    }
+    if count_shown(syms, name, class) == 1 {
+        first_shown(syms, name, class)
+    } else {
+        None
+    }
+}
+
+/// The place of the first candidate of version index 1 or 2.
+fn first_early(syms: &[Sym], name: &[u8], class: Class) -> Option<usize>
+    ensures place { result ≡ position_from (is_early name.now class) 0 syms.now }
+    ensures bound { IfSome result (λ i. i < length syms.now) }
+{
+    syms.iter().position(|s| is_candidate(s, name, class) && is_first_version(&s.version))
+}
+
+/// The place of the first candidate that is not hidden.
+fn first_shown(syms: &[Sym], name: &[u8], class: Class) -> Option<usize>
+    ensures place { result ≡ position_from (is_shown name.now class) 0 syms.now }
+    ensures bound { IfSome result (λ i. i < length syms.now) }
+{
+    syms.iter().position(|s| is_shown(s, name, class))
+}
+
+/// How many candidates are not hidden.
+fn count_shown(syms: &[Sym], name: &[u8], class: Class) -> usize
+    ensures { result ≡ length (filter (is_shown name.now class) syms.now) }
+{
+    syms.iter().filter(|s| is_shown(s, name, class)).count()
+}
+
+/// Is it a candidate that is not hidden?
+fn is_shown(s: &Sym, name: &[u8], class: Class) -> bool
+    ensures { result ≡ is_shown name.now class s.now }
+{
+    is_candidate(s, name, class) && !s.hidden
+}
+
+/// Is it an offerable symbol of this name, with a version index other than 0?
+fn is_candidate(s: &Sym, name: &[u8], class: Class) -> bool
+    ensures { result ≡ is_candidate name.now class s.now }
+{
+    is_offerable(s, class) && s.name.as_bytes() == name && !is_local(&s.version)
+}
+
+/// May other objects bind to it, with a reference of this class?
+fn is_offerable(s: &Sym, class: Class) -> bool
+    ensures { result ≡ is_offerable class s.now }
+{
+    is_bindable(s) && suits(class, s.defined)
+}
+
+/// May a reference of this class go to such a symbol?
+fn suits(class: Class, defined: bool) -> bool
+    ensures { result ≡ suits class defined }
+{
+    match class {
+        Class::Call => defined,
+        Class::Plain | Class::Copy => true,
+    }
+}
+
+/// May other objects bind to it?
+#[tactic(auto, unfolding(crate::specs::SymbolWords::is_bindable))]
+fn is_bindable(s: &Sym) -> bool
+    ensures { result ≡ is_bindable s.now.binding s.now.kind s.now.visibility s.now.value_set }
+{
+    is_shared(s.binding) && is_found_by_name(s.kind) && is_visible(s.visibility) && s.value_set
+}
+
+/// Do other objects see symbols of this binding?
+fn is_shared(binding: u8) -> bool
+    ensures { result ≡ is_shared binding }
+{
+    matches!(binding, STB_GLOBAL | STB_WEAK | STB_GNU_UNIQUE)
+}
+
+/// Are symbols of this type found by name?
+fn is_found_by_name(kind: u8) -> bool
+    ensures { result ≡ is_found_by_name kind }
+{
+    matches!(
+        kind,
+        STT_NOTYPE | STT_OBJECT | STT_FUNC | STT_COMMON | STT_TLS | STT_GNU_IFUNC
+    )
+}
+
+/// Does this visibility let other objects see a symbol?
+fn is_visible(visibility: u8) -> bool
+    ensures { result ≡ is_visible visibility }
+{
+    visibility == STV_DEFAULT || visibility == STV_PROTECTED
+}
+
+/// Is the version index 0?
+fn is_local(version: &Ver) -> bool
+    ensures { result ≡ is_local version.now }
+{
+    match version {
+        Ver::Local => true,
+        Ver::Global | Ver::Named { .. } => false,
+    }
+}
+
+/// Is the version index 1?
+fn is_global(version: &Ver) -> bool
+    ensures { result ≡ is_global version.now }
+{
+    match version {
+        Ver::Global => true,
+        Ver::Local | Ver::Named { .. } => false,
+    }
+}
+
+/// Is the version index 1 or 2?
+fn is_first_version(version: &Ver) -> bool
+    ensures { result ≡ is_first_version version.now }
+{
+    match version {
+        Ver::Local => false,
+        Ver::Global => true,
+        Ver::Named { index, .. } => *index == 2,
+    }
+}
+
+/// Does the version have this name?
+fn has_version(version: &Ver, wanted: &[u8]) -> bool
+    ensures { result ≡ has_version wanted.now version.now }
+{
+    match version {
+        Ver::Local | Ver::Global => false,
+        Ver::Named { name, .. } => name.as_bytes() == wanted,
+    }
+}
+
+/// Is it of this version, or without one and not hidden?
+fn has_wanted_version(s: &Sym, wanted: &[u8]) -> bool
+    ensures { result ≡ has_wanted_version wanted.now s.now }
+{
+    has_version(&s.version, wanted) || is_global(&s.version) && !s.hidden
+}
+
+#[cfg(test)]
+mod tests {
+    use super::Offers;
+    use crate::{Class, Face, List, Name, NoMemory, Sym, Ver};
+    use byte_view::constants::{EM_X86_64, STB_GLOBAL, STT_FUNC, STV_DEFAULT};
+    use std::alloc::Global;
+
+    /// A function `g` with a value: its version index, which is also the name of its version.
+    #[derive(Clone, Copy)]
+    struct Row {
+        index: u8,
+        hidden: bool,
+        defined: bool,
+    }
+
+    const fn shown(index: u8) -> Row {
+        Row {
+            index,
+            hidden: false,
+            defined: true,
+        }
+    }
+
+    const fn hidden(index: u8) -> Row {
+        Row {
+            index,
+            hidden: true,
+            defined: true,
+        }
+    }
+
+    const fn undefined(index: u8) -> Row {
+        Row {
+            index,
+            hidden: false,
+            defined: false,
+        }
+    }
+
+    fn symbol(alloc: Global, row: Row) -> Result<Sym, NoMemory> {
+        let version = match row.index {
+            0 => Ver::Local,
+            1 => Ver::Global,
+            _ => Ver::Named {
+                index: u16::from(row.index),
+                name: Name::from_bytes(alloc, &[row.index])?,
+            },
+        };
+        Ok(Sym {
+            name: Name::from_bytes(alloc, b"g")?,
+            version,
+            hidden: row.hidden,
+            defined: row.defined,
+            value_set: true,
+            binding: STB_GLOBAL,
+            kind: STT_FUNC,
+            visibility: STV_DEFAULT,
+        })
+    }
+
+    /// An object with these symbols from index 1 on.
+    fn object(alloc: Global, versioned: bool, rows: &[Row]) -> Result<Face, NoMemory> {
+        let mut syms = List::new(alloc);
+        syms.push(symbol(alloc, shown(1))?)?;
+        for row in rows {
+            syms.push(symbol(alloc, *row)?)?;
+        }
+        Ok(Face {
+            machine: EM_X86_64,
+            interp: None,
+            soname: None,
+            needs: List::new(alloc),
+            rpath: None,
+            runpath: None,
+            symbolic: false,
+            syms,
+            versioned,
+            defs: List::new(alloc),
+            asks: List::new(alloc),
+        })
+    }
+
+    /// What a reference to `g` gets in an object of few symbols.
+    fn offered(face: &Face, version: Option<&[u8]>, class: Class) -> Option<u32> {
+        if face.syms.as_slice().len() < 9 {
+            face.offer(b"g", version, class)
+        } else {
+            None
+        }
+    }
+
+    #[test]
+    fn offers_by_version(rt: HostRuntime) {
+        let three = Some([3].as_slice());
+        for (rows, version, answer) in [
+            // Without a version: index 1 or 2, hidden or not, and else the only one that is shown.
+            ([hidden(3), hidden(4), shown(5)], None, Some(3)),
+            ([hidden(3), shown(4), shown(5)], None, None),
+            ([shown(5), hidden(2), shown(1)], None, Some(2)),
+            ([shown(0), shown(0), shown(0)], None, None),
+            // With a version: that version, hidden or not, and index 1 where it is not hidden.
+            ([shown(2), hidden(3), shown(3)], three, Some(2)),
+            ([hidden(1), shown(1), shown(3)], three, Some(2)),
+            ([shown(0), hidden(1), shown(2)], three, None),
+        ] {
+            match object(rt.alloc(), true, &rows) {
+                Ok(face) => assert_eq!(rt; offered(&face, version, Class::Plain), answer),
+                Err(_) => assert!(rt; false),
+            }
+        }
+    }
+
+    #[test]
+    fn offers_by_class(rt: HostRuntime) {
+        for (rows, class, answer) in [
+            ([undefined(1), shown(1)], Class::Plain, Some(1)),
+            ([undefined(1), shown(1)], Class::Copy, Some(1)),
+            ([undefined(1), shown(1)], Class::Call, Some(2)),
+            ([undefined(1), undefined(1)], Class::Call, None),
+            // No table of version indexes: hidden or not, whatever the version.
+            ([shown(0), hidden(4)], Class::Call, Some(2)),
+        ] {
+            match object(rt.alloc(), false, &rows) {
+                Ok(face) => assert_eq!(rt; offered(&face, Some(b"3"), class), answer),
+                Err(_) => assert!(rt; false),
+            }
+        }
+    }
+}
