@@ -6,3 +6,12 @@ pub mod Diamond
 pub mod SymbolWords
 pub mod Hashes
 pub mod Offers
+pub mod TableWords
+pub mod SymbolTable
+pub mod SysvTable
+pub mod GnuTable
+pub mod SymbolCount
+pub mod SymbolFlaws
+pub mod VersionTables
+pub mod VersionFlaws
+pub mod Faces

@@ -23,7 +23,7 @@ pub use laws::{
     run_found, run_in_two_worlds, run_is_in_order, run_is_run, stop_is_stop,
 };
 pub use lists::List;
-pub use offers::Offers;
+pub use offers::{Offers, is_bindable};
 pub use path_text::NoMemory;
 pub use setting::Setting;
 pub use symbols::{Class, RawSym, Sym, Ver};

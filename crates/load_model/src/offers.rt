@@ -146,7 +146,7 @@ fn is_candidate(s: &Sym, name: &[u8], class: Class) -> bool
 fn is_offerable(s: &Sym, class: Class) -> bool
     ensures { result ≡ is_offerable class s.now }
 {
-    is_bindable(s) && suits(class, s.defined)
+    may_bind(s) && suits(class, s.defined)
 }
 
 /// May a reference of this class go to such a symbol?
@@ -160,11 +160,20 @@ fn suits(class: Class, defined: bool) -> bool
 }
 
 /// May other objects bind to it?
-#[tactic(auto, unfolding(crate::specs::SymbolWords::is_bindable))]
-fn is_bindable(s: &Sym) -> bool
+fn may_bind(s: &Sym) -> bool
     ensures { result ≡ is_bindable s.now.binding s.now.kind s.now.visibility s.now.value_set }
 {
-    is_shared(s.binding) && is_found_by_name(s.kind) && is_visible(s.visibility) && s.value_set
+    is_bindable(s.binding, s.kind, s.visibility, s.value_set)
+}
+
+/// May other objects bind to a symbol of this binding, type and visibility?
+///
+/// `value_set` says whether it has a value that a reference can bind to.
+#[tactic(auto, unfolding(crate::specs::SymbolWords::is_bindable))]
+pub fn is_bindable(binding: u8, kind: u8, visibility: u8, value_set: bool) -> bool
+    ensures { result ≡ is_bindable binding kind visibility value_set }
+{
+    is_shared(binding) && is_found_by_name(kind) && is_visible(visibility) && value_set
 }
 
 /// Do other objects see symbols of this binding?
