@@ -1,0 +1,40 @@
+-- The symbols of a file that were read, and the hash tables that were found
+use Rattle.std.specs.Prelude.{ℕ, ◌≡◌, List, Option, None}
+use Rattle.byte_view.specs.Dynamic.{value_of}
+use Rattle.byte_view.specs.declared.constants.TheConstants.{DT_HASH, DT_GNU_HASH}
+use Rattle.byte_view.specs.declared.dynamic.Entry.{Entry}
+use Rattle.byte_view.specs.declared.segments.Segment.{Segment}
+use Rattle.load_model.specs.SymbolFlaws.{count_by, gnu_range, symbol_count, symbol_flaw, symbols_by, symbols_of, sysv_range}
+use Rattle.std.specs.Option.{option_and_then}
+use Rattle.load_model.specs.GnuTable.{gnu_place}
+use Rattle.load_model.specs.SysvTable.{sysv_place}
+use Rattle.load_model.specs.declared.symbols.RawSym.{RawSym}
+use Rattle.sym_tables.specs.FoundTables.{IsGnuAt, IsSysvAt}
+use Rattle.sym_tables.specs.declared.tables.Tables.{Tables}
+
+-- how many symbols there are, their words by index, and where the hash tables begin and end in the file
+pub record Symbols : Type 0 where
+  pub count : ℕ
+  pub raw : List RawSym
+  pub hash_range : Option (ℕ × ℕ)
+  pub gnu_range : Option (ℕ × ℕ)
+
+-- they are those of the file, which has no flaw there
+pub record IsSymsOf (s : Symbols) (file : List ℕ) : Type 0 where
+  pub unflawed : symbol_flaw file ≡ None
+  pub count : s.count ≡ symbol_count file
+  pub raw : s.raw ≡ symbols_of file
+  pub hash_range : s.hash_range ≡ sysv_range file
+  pub gnu_range : s.gnu_range ≡ gnu_range file
+
+-- the hash tables are those that the dynamic table names
+pub record AreTablesOf (t : Tables) (file : List ℕ) (segments : List Segment) (entries : List Entry) : Type 0 where
+  pub sysv : IsSysvAt t.sysv file segments (value_of DT_HASH entries)
+  pub gnu : IsGnuAt t.gnu file segments (value_of DT_GNU_HASH entries)
+
+-- the same over headers and dynamic entries
+pub record AreSymsBy (s : Symbols) (file : List ℕ) (segments : List Segment) (entries : List Entry) : Type 0 where
+  pub count : s.count ≡ count_by file segments entries
+  pub raw : s.raw ≡ symbols_by file segments entries
+  pub hash_range : s.hash_range ≡ option_and_then (λ addr. sysv_place file segments addr) (value_of DT_HASH entries)
+  pub gnu_range : s.gnu_range ≡ option_and_then (λ addr. gnu_place file segments addr) (value_of DT_GNU_HASH entries)

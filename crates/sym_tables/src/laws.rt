@@ -1,0 +1,52 @@
+//! Laws of symbols and hash tables, each the contract of a function that does nothing.
+
+ghost use Rattle.std.specs.Prelude.{◌≡◌, ◌≤◌, ◌↔◌, ◌==◌, ℕ, List, [], Some, None, codes, length, slice_get, true};
+ghost use Rattle.std.specs.List.{list_any};
+ghost use Rattle.byte_view.specs.Dynamic.{dynamic_entries};
+ghost use Rattle.byte_view.specs.Headers.{headers};
+ghost use Rattle.load_model.specs.Hashes.{gnu_hash, sysv_hash};
+ghost use Rattle.load_model.specs.SymbolCount.{reach_count};
+ghost use Rattle.load_model.specs.SymbolFlaws.{gnu_in, is_offerable, name_in, symbol_count, symbol_flaw, symbols_of, sysv_in};
+ghost use Rattle.load_model.specs.SysvTable.{IsChain, SysvTable, ends_in, is_in_chain, sysv_lists};
+ghost use Rattle.load_model.specs.GnuTable.{GnuTable, gnu_lists};
+ghost use Rattle.load_model.specs.declared.symbols.RawSym.{RawSym};
+ghost use Rattle.sym_tables.specs.Listing.{file_strings};
+
+/// Six values of the hash functions.
+pub fn hash_values()
+    ensures empty { sysv_hash [] ≡ 0 }
+    ensures empty_gnu { gnu_hash [] ≡ 0x1505 }
+    ensures exit { sysv_hash (codes "exit") ≡ 0x0006cf04 }
+    ensures exit_gnu { gnu_hash (codes "exit") ≡ 0x7c967e3f }
+    ensures puts { sysv_hash (codes "puts") ≡ 0x00077cb3 }
+    ensures version { sysv_hash (codes "GLIBC_2.2.5") ≡ 0x09691a75 }
+{}
+
+/// In a file without these flaws the GNU hash table reaches no further than the symbols.
+pub fn reach_within_symbols()
+    ensures { (file : List ℕ) (reach : ℕ) → symbol_flaw file ≡ None
+        → reach_count file (headers file) (dynamic_entries file) ≡ Some reach
+        → reach ≤ symbol_count file }
+{}
+
+/// In a file without these flaws each symbol that other objects may bind to is listed by each hash table that is there, in
+/// the chain of the bucket that the hash of its name leads to.
+pub fn each_table_lists()
+    ensures sysv { (file : List ℕ) (i : ℕ) (s : RawSym) (t : SysvTable) → symbol_flaw file ≡ None
+        → slice_get (symbols_of file) i ≡ Some s → is_offerable i s ≡ true
+        → sysv_in file (headers file) (dynamic_entries file) ≡ Some t
+        → sysv_lists t (sysv_hash (name_in (file_strings file) s)) i ≡ true }
+    ensures gnu { (file : List ℕ) (i : ℕ) (s : RawSym) (t : GnuTable) → symbol_flaw file ≡ None
+        → slice_get (symbols_of file) i ≡ Some s → is_offerable i s ≡ true
+        → gnu_in file (headers file) (dynamic_entries file) ≡ Some t
+        → gnu_lists t (gnu_hash (name_in (file_strings file) s)) i ≡ true }
+{}
+
+/// In a table whose chains end, a symbol is in the chain from another on exactly where it stands in the list that is that
+/// chain.
+pub fn chain_is_list()
+    ensures { (chains list : List ℕ) (at i : ℕ)
+        → ends_in (length chains) chains at ≡ true
+        → IsChain chains at list
+        → (is_in_chain chains at i ≡ true) ↔ (list_any (λ j. j == i) list ≡ true) }
+{}

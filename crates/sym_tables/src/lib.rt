@@ -1,0 +1,26 @@
+//! The symbols of an ELF file, their count, and the two hash tables that list them by name.
+//!
+//! System V gABI, Symbol Table and Hash Table; the GNU hash table as the GNU tools write it.
+#![tactic(auto)]
+
+mod count;
+mod faults;
+mod gnu;
+mod hashes;
+mod laws;
+mod listing;
+mod symbols;
+mod sysv;
+mod table;
+mod tables;
+mod tags;
+#[cfg(test)]
+mod tests;
+mod words;
+
+pub use byte_view::Flaw;
+pub use faults::SymFault;
+pub use hashes::{gnu_hash, sysv_hash};
+pub use laws::{chain_is_list, each_table_lists, hash_values, reach_within_symbols};
+pub use load_model::RawSym;
+pub use table::Syms;

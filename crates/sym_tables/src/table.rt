@@ -1,0 +1,142 @@
+//! The symbols of a file, once they and the hash tables are known to have no flaw.
+
+ghost use Rattle.std.specs.Prelude.{◌≡◌, IfOk};
+ghost use Rattle.byte_view.specs.Checks.{TellsBy};
+ghost use Rattle.byte_view.specs.Dynamic.{strings_size};
+ghost use Rattle.byte_view.specs.Sound.{IsReadFrom};
+ghost use Rattle.dyn_table.specs.Table.{IsTableOf};
+ghost use Rattle.load_model.specs.SymbolFlaws.{count_by, count_flaw, symbol_flaw, symbol_flaw_by};
+ghost use Rattle.sym_tables.specs.Faults.{flaw_of};
+ghost use Rattle.sym_tables.specs.FoundTables.{HasBucket};
+ghost use Rattle.sym_tables.specs.Listing.{file_strings, gnu_of, lists_flaw, sysv_of};
+ghost use Rattle.sym_tables.specs.ReadSymbols.{AreSymsBy, AreTablesOf, IsSymsOf};
+
+use crate::count::{check_count, section_count};
+use crate::faults::SymFault;
+use crate::listing::check_listed;
+use crate::symbols::{check_names, read_symbols};
+use crate::tables::Tables;
+use crate::tags::{check_symbol_size, strings_size, symbols_at};
+use byte_view::Entry;
+use dyn_table::Dyn;
+use elf_headers::Elf;
+use load_model::RawSym;
+use std::alloc::Global;
+use std::marker::Model;
+
+/// The symbols of a file in which they and the hash tables have no flaw. The file's bytes are not kept.
+#[derive(Drop)]
+pub struct Syms {
+    symbols: Vec<RawSym>,
+    hash: Option<(usize, usize)>,
+    gnu: Option<(usize, usize)>,
+}
+
+impl Model for Syms {
+    ghost use Rattle.std.specs.Prelude.{◌<◌, ◌^◌, length};
+    ghost use Rattle.sym_tables.specs.FoundTables.{HasBucket};
+    ghost use Rattle.sym_tables.specs.Listing.{file_strings, gnu_of, lists_flaw, sysv_of};
+    ghost use Rattle.sym_tables.specs.ReadSymbols.{Symbols};
+
+    ghost Value = { Symbols };
+
+    ghost view = { λ s. record { count = length s.symbols.items; raw = s.symbols.items; hash_range = s.hash; gnu_range = s.gnu } };
+
+    ghost invariant = { λ s. length s.symbols.items < 2 ^ 32 };
+}
+
+impl Syms {
+    /// Reads the symbols of the file whose headers `elf` has and whose dynamic table is `table`.
+    ///
+    /// Answers the first flaw of the symbols and the hash tables, in the order of `docs/ELF.md`, or
+    /// `NoMemory`.
+    #[tactic(auto, using(crate::proofs::Whole::flaw_is))]
+    pub fn read(alloc: Global, elf: &Elf, table: &Dyn, bytes: &[u8]) -> Result<Syms, SymFault>
+        requires elf { IsReadFrom elf.now bytes.now }
+        requires table { IsTableOf table.now bytes.now }
+        ensures flaw { TellsBy flaw_of result (symbol_flaw bytes.now) }
+        ensures table { IfOk result (λ s. IsSymsOf s bytes.now) }
+    {
+        Syms::read_by(alloc, elf, table, bytes)
+    }
+
+    /// How many symbols there are.
+    pub fn count(&self) -> u32
+        ensures { result ≡ self.now.count }
+    {
+        self.symbols.len() as u32
+    }
+
+    /// The symbols by index, as the file has them.
+    pub fn raw(&self) -> &[RawSym]
+        ensures { result.now ≡ self.now.raw }
+    {
+        &self.symbols
+    }
+
+    /// Where the hash table begins and ends in the file, if there is one.
+    pub fn hash_range(&self) -> Option<(usize, usize)>
+        ensures { result ≡ self.now.hash_range }
+    {
+        self.hash
+    }
+
+    /// Where the GNU hash table begins and ends in the file, if there is one. It ends behind the chain words below its
+    /// reach.
+    pub fn gnu_range(&self) -> Option<(usize, usize)>
+        ensures { result ≡ self.now.gnu_range }
+    {
+        self.gnu
+    }
+
+    /// The same over the entries of the dynamic table.
+    #[tactic(auto, unfolding(load_model::specs::SymbolFlaws::symbol_flaw_by), using(crate::proofs::Whole::list_is, crate::proofs::Whole::tables_sound))]
+    fn read_by(alloc: Global, elf: &Elf, table: &Dyn, bytes: &[u8]) -> Result<Syms, SymFault>
+        requires elf { IsReadFrom elf.now bytes.now }
+        requires table { IsTableOf table.now bytes.now }
+        ensures flaw { TellsBy flaw_of result (symbol_flaw_by bytes.now elf.now table.now.entries) }
+        ensures table { IfOk result (λ s. AreSymsBy s bytes.now elf.now table.now.entries) }
+    {
+        let entries = table.entries();
+        check_symbol_size(entries)?;
+        let tables = Tables::read(alloc, elf, bytes, entries)?;
+        let count = count_of(elf, bytes, entries, &tables)?;
+        let symbols = read_symbols(alloc, elf, bytes, symbols_at(entries), count)?;
+        check_list(alloc, table, bytes, &tables, &symbols)?;
+        Ok(Syms {
+            symbols,
+            hash: tables.hash_range(),
+            gnu: tables.gnu_range(),
+        })
+    }
+}
+
+/// How many symbols there are, if a source says it and none says otherwise.
+#[tactic(auto, using(crate::proofs::RawSymbols::header_there, crate::proofs::Whole::counts_are, crate::proofs::Whole::count_is))]
+fn count_of(elf: &Elf, bytes: &[u8], entries: &[Entry], tables: &Tables) -> Result<u64, SymFault>
+    requires elf { IsReadFrom elf.now bytes.now }
+    requires tables { AreTablesOf tables.now bytes.now elf.now entries.now }
+    ensures flaw { TellsBy flaw_of result (count_flaw bytes.now elf.now entries.now) }
+    ensures count { IfOk result (λ count. count ≡ count_by bytes.now elf.now entries.now) }
+{
+    let section = section_count(bytes, entries);
+    check_count(section, tables.hash_count(), tables.reach())
+}
+
+/// Are the names of the symbols in the string table, and do the hash tables list those that other objects may bind to?
+#[tactic(auto, unfolding(crate::specs::Listing::lists_flaw))]
+fn check_list(
+    alloc: Global,
+    table: &Dyn,
+    bytes: &[u8],
+    tables: &Tables,
+    symbols: &[RawSym],
+) -> Result<(), SymFault>
+    requires table { IsTableOf table.now bytes.now }
+    requires sound { HasBucket tables.now.sysv }
+    ensures { TellsBy flaw_of result (lists_flaw (strings_size table.now.entries) (sysv_of tables.now.sysv) (gnu_of tables.now.gnu) (file_strings bytes.now) symbols.now) }
+{
+    let size = strings_size(table.entries());
+    check_names(size, symbols)?;
+    check_listed(alloc, &tables.sysv, &tables.gnu, table, bytes, symbols)
+}
