@@ -1,0 +1,13 @@
+pub mod Backed
+pub mod Words
+pub mod Walks
+pub mod Places
+pub mod DefinitionSteps
+pub mod AskedSteps
+pub mod NeedSteps
+pub mod SymbolWords
+pub mod FirstNames
+pub mod Assembled
+pub mod SymbolVersions
+pub mod Whole
+pub mod Chaining

@@ -1,0 +1,10 @@
+-- The flaw that a fault names
+use Rattle.std.specs.Prelude.{Option, Some, None}
+use Rattle.byte_view.specs.declared.flaws.Flaw.{Flaw}
+use Rattle.version_tables.specs.declared.faults.VersionFault.{VersionFault}
+use Rattle.version_tables.specs.declared.faults.VersionFault.TheVariants.{Flawed, NoMemory}
+
+-- want of memory names none
+abbrev pub flaw_of : VersionFault → Option Flaw
+flaw_of (Flawed f) = Some f
+flaw_of NoMemory = None

@@ -1,0 +1,25 @@
+//! Records that follow one another, each as far behind the one before it as that one says.
+
+ghost use Rattle.std.specs.Prelude.{◌≡◌, ◌<◌, ◌+◌, OnOk};
+ghost use Rattle.byte_view.specs.Checks.{TellsBy};
+ghost use Rattle.byte_view.specs.declared.constants.TheConstants.{HIGHEST_END};
+ghost use Rattle.load_model.specs.VersionFlaws.{bad_next};
+ghost use Rattle.version_tables.specs.Faults.{flaw_of};
+
+use crate::faults::{VersionFault, flawed};
+
+/// Is record `k`, counted from 0, the last of `said` exactly where it says that none follows?
+pub(crate) fn check_next(said: u64, k: u64, next: u32) -> Result<(), VersionFault>
+    requires { k < HIGHEST_END }
+    ensures flaw { TellsBy flaw_of result (bad_next said k next) }
+    ensures step { OnOk result (k + 1 < said → 0 < next) }
+{
+    let found = k + 1;
+    if found < said && next == 0 {
+        return Err(flawed(31, said, found));
+    }
+    if found == said && next != 0 {
+        return Err(flawed(31, said, found + 1));
+    }
+    Ok(())
+}
