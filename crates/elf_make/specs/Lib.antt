@@ -1,0 +1,11 @@
+pub mod Bytes
+pub mod Distinct
+pub mod Versions
+pub mod Texts
+pub mod VersionTables
+pub mod Symbols
+pub mod HashTables
+pub mod Parts
+pub mod DynamicTable
+pub mod Headers
+pub mod Object

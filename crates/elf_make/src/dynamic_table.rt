@@ -1,0 +1,174 @@
+//! The dynamic table of a made file.
+//!
+//! System V gABI, Dynamic Section.
+
+ghost use Rattle.std.specs.Prelude.{◌≡◌, ◌+◌, ◌++◌, ◌∷◌, [], map, replicate, OnOk, IfOk};
+ghost use Rattle.elf_make.specs.Texts.{string_place};
+ghost use Rattle.elf_make.specs.DynamicTable.{tagged, where_wanted, naming, name_entries, table_entries, version_entries, end_entries, entries_of, entry_bytes, dynamic_size};
+
+use crate::numbers::push_longs;
+use crate::parts::{Parts, Places};
+use crate::shape::Shape;
+use crate::strings::Strings;
+use crate::versions::{Versions, files_of};
+use byte_view::Entry;
+use byte_view::constants::{
+    DT_GNU_HASH, DT_HASH, DT_NEEDED, DT_NULL, DT_RPATH, DT_RUNPATH, DT_SONAME, DT_STRSZ, DT_STRTAB,
+    DT_SYMBOLIC, DT_SYMENT, DT_SYMTAB, DT_VERDEF, DT_VERDEFNUM, DT_VERNEED, DT_VERNEEDNUM,
+    DT_VERSYM, SYM_SIZE,
+};
+use load_model::{List, Name, NoMemory};
+use std::alloc::Global;
+
+/// Appends an entry.
+fn push_entry(out: &mut List<Entry>, tag: u64, value: u64) -> Result<(), NoMemory>
+    ensures { OnOk result (out.new ≡ out.old ++ tagged tag value ∷ []) }
+{
+    out.push(Entry { tag, value })
+}
+
+/// Appends an entry where it is wanted.
+fn push_wanted(out: &mut List<Entry>, wanted: bool, tag: u64, value: u64) -> Result<(), NoMemory>
+    ensures { OnOk result (out.new ≡ out.old ++ where_wanted wanted tag value) }
+{
+    if wanted {
+        push_entry(out, tag, value)?;
+    }
+    Ok(())
+}
+
+/// Appends the entry that names a text, where there is one.
+fn push_naming(
+    out: &mut List<Entry>,
+    texts: &Strings,
+    tag: u64,
+    text: &Option<Name>,
+) -> Result<(), NoMemory>
+    ensures { OnOk result (out.new ≡ out.old ++ naming texts.now tag text.now) }
+{
+    if let Some(text) = text {
+        push_entry(out, tag, texts.place(text.as_bytes()) as u64)?;
+    }
+    Ok(())
+}
+
+/// Appends the entries that name the needed libraries.
+fn push_needs(out: &mut List<Entry>, texts: &Strings, needs: &[Name]) -> Result<(), NoMemory>
+    ensures { OnOk result (out.new ≡ out.old ++ map (λ need. tagged DT_NEEDED (string_place texts.now need)) needs.now) }
+{
+    for need in needs {
+        push_entry(out, DT_NEEDED, texts.place(need.as_bytes()) as u64)?;
+    }
+    Ok(())
+}
+
+/// Appends what the file needs, what it is called, and how it is searched.
+#[tactic(auto, unfolding(crate::specs::DynamicTable::name_entries))]
+fn push_names(out: &mut List<Entry>, shape: &Shape, texts: &Strings) -> Result<(), NoMemory>
+    ensures { OnOk result (out.new ≡ out.old ++ name_entries shape.now texts.now) }
+{
+    push_needs(out, texts, shape.needs.as_slice())?;
+    push_naming(out, texts, DT_SONAME, &shape.soname)?;
+    push_naming(out, texts, DT_RPATH, &shape.rpath)?;
+    push_naming(out, texts, DT_RUNPATH, &shape.runpath)?;
+    push_wanted(out, shape.symbolic, DT_SYMBOLIC, 0)
+}
+
+/// Appends where its strings and symbols are.
+#[tactic(auto, unfolding(crate::specs::DynamicTable::table_entries))]
+fn push_tables(
+    out: &mut List<Entry>,
+    shape: &Shape,
+    parts: &Parts,
+    places: &Places,
+) -> Result<(), NoMemory>
+    ensures { OnOk result (out.new ≡ out.old ++ table_entries shape.now parts.now places.now) }
+{
+    push_wanted(out, shape.sysv, DT_HASH, places.sysv)?;
+    push_wanted(out, shape.gnu, DT_GNU_HASH, places.gnu)?;
+    push_entry(out, DT_STRTAB, places.strings)?;
+    push_entry(out, DT_SYMTAB, places.symbols)?;
+    push_entry(out, DT_STRSZ, parts.strings.as_bytes().len() as u64)?;
+    push_entry(out, DT_SYMENT, SYM_SIZE)
+}
+
+/// Appends where its versions are.
+#[tactic(auto, unfolding(crate::specs::DynamicTable::version_entries))]
+fn push_versions(
+    alloc: Global,
+    out: &mut List<Entry>,
+    versions: &Versions,
+    places: &Places,
+) -> Result<(), NoMemory>
+    ensures { OnOk result (out.new ≡ out.old ++ version_entries versions.now places.now) }
+{
+    push_wanted(out, versions.is_versioned(), DT_VERSYM, places.versym)?;
+    let definitions = versions.definitions.as_slice().len();
+    if definitions > 0 {
+        push_entry(out, DT_VERDEF, places.verdef)?;
+        push_entry(out, DT_VERDEFNUM, 1 + definitions as u64)?;
+    }
+    let files = files_of(alloc, versions.needed.as_slice())?;
+    if !versions.needed.as_slice().is_empty() {
+        push_entry(out, DT_VERNEED, places.verneed)?;
+        push_entry(out, DT_VERNEEDNUM, files.as_slice().len() as u64)?;
+    }
+    Ok(())
+}
+
+/// Appends entries of zeros.
+fn push_spare(out: &mut List<Entry>, spare: u32) -> Result<(), NoMemory>
+    ensures { OnOk result (out.new ≡ out.old ++ replicate spare (tagged DT_NULL 0)) }
+{
+    for _ in 0..spare {
+        push_entry(out, DT_NULL, 0)?;
+    }
+    Ok(())
+}
+
+/// Appends the end, and the spare entries.
+#[tactic(auto, unfolding(crate::specs::DynamicTable::end_entries))]
+fn push_end(out: &mut List<Entry>, spare: u32) -> Result<(), NoMemory>
+    ensures { OnOk result (out.new ≡ out.old ++ end_entries spare) }
+{
+    push_entry(out, DT_NULL, 0)?;
+    push_spare(out, spare)
+}
+
+/// The entries of the dynamic table.
+#[tactic(auto, unfolding(crate::specs::DynamicTable::entries_of))]
+pub(crate) fn entries_of(
+    alloc: Global,
+    shape: &Shape,
+    versions: &Versions,
+    texts: &Strings,
+    parts: &Parts,
+    places: &Places,
+) -> Result<List<Entry>, NoMemory>
+    ensures { IfOk result (λ entries. entries ≡ entries_of shape.now versions.now texts.now parts.now places.now) }
+{
+    let mut entries = List::new(alloc);
+    push_names(&mut entries, shape, texts)?;
+    push_tables(&mut entries, shape, parts, places)?;
+    push_versions(alloc, &mut entries, versions, places)?;
+    push_end(&mut entries, shape.spare)?;
+    Ok(entries)
+}
+
+/// Appends the bytes of the entries.
+#[tactic(auto, unfolding(crate::specs::DynamicTable::entry_bytes))]
+pub(crate) fn push_entries(out: &mut Vec<u8>, entries: &[Entry]) -> Result<(), NoMemory>
+    ensures { OnOk result (out.new.items ≡ out.old.items ++ entry_bytes entries.now) }
+{
+    for entry in entries {
+        push_longs(out, &[entry.tag, entry.value])?;
+    }
+    Ok(())
+}
+
+/// How many bytes so many entries have.
+pub(crate) fn dynamic_size(entries: &[Entry]) -> Result<u64, NoMemory>
+    ensures { IfOk result (λ size. size ≡ dynamic_size entries.now) }
+{
+    u64::try_from(16 * entries.len() as u128).map_err(|_| NoMemory)
+}

@@ -1,0 +1,163 @@
+//! The ELF header, the program headers and the section headers of a made file.
+//!
+//! System V gABI, ELF Header, Program Header and Sections.
+
+ghost use Rattle.std.specs.Prelude.{◌≡◌, ◌+◌, ◌++◌, OnOk, IfOk};
+ghost use Rattle.elf_make.specs.Headers.{kind_words, table_words, file_header, segment, page_of, segments_of, segment_bytes, section_headers, sections_of};
+
+use crate::numbers::{push_bytes, push_halves, push_longs, push_words};
+use crate::parts::{Parts, Places, segment_count};
+use crate::shape::Shape;
+use byte_view::Segment;
+use byte_view::constants::{
+    EHDR_SIZE, ET_DYN, EV_CURRENT, PF_R, PF_W, PHDR_SIZE, PT_DYNAMIC, PT_INTERP, PT_LOAD, PT_PHDR,
+    SHDR_SIZE, SHT_DYNSYM, SYM_SIZE,
+};
+use load_model::{List, NoMemory};
+use std::alloc::Global;
+
+/// The AArch64 machine, whose pages may have 65,536 bytes.
+const EM_AARCH64: u16 = 183;
+
+/// A shared object of 64-bit words, the lowest byte first, version 1.
+const IDENT: [u8; 16] = [0x7f, 0x45, 0x4c, 0x46, 2, 1, 1, 0, 0, 0, 0, 0, 0, 0, 0, 0];
+
+/// Appends what the file is: `e_ident`, `e_type`, `e_machine`, `e_version`.
+#[tactic(auto, unfolding(crate::specs::Headers::kind_words))]
+fn push_kind(out: &mut Vec<u8>, machine: u16) -> Result<(), NoMemory>
+    ensures { OnOk result (out.new.items ≡ out.old.items ++ kind_words machine) }
+{
+    push_bytes(out, &IDENT)?;
+    push_halves(out, &[ET_DYN, machine])?;
+    push_words(out, &[EV_CURRENT as u32])
+}
+
+/// Appends where the header tables are, and the sizes and the numbers of their headers.
+#[tactic(auto, unfolding(crate::specs::Headers::table_words))]
+fn push_tables(
+    out: &mut Vec<u8>,
+    segments: u16,
+    place: u64,
+    size: u16,
+    sections: u16,
+) -> Result<(), NoMemory>
+    ensures { OnOk result (out.new.items ≡ out.old.items ++ table_words segments place size sections) }
+{
+    push_longs(out, &[0, EHDR_SIZE as u64, place])?;
+    push_words(out, &[0])?;
+    push_halves(out, &[EHDR_SIZE, PHDR_SIZE, segments, size, sections, 0])
+}
+
+/// Appends the ELF header of a file whose section headers stand at a place, where it has any.
+#[tactic(auto, unfolding(crate::specs::Headers::file_header))]
+pub(crate) fn push_file_header(out: &mut Vec<u8>, shape: &Shape, place: u64) -> Result<(), NoMemory>
+    ensures { OnOk result (out.new.items ≡ out.old.items ++ file_header shape.now place) }
+{
+    let segments = segment_count(shape);
+    push_kind(out, shape.machine)?;
+    if shape.sections {
+        push_tables(out, segments, place, SHDR_SIZE, 2)
+    } else {
+        push_tables(out, segments, 0, 0, 0)
+    }
+}
+
+/// A segment that is a part of the file.
+fn segment(kind: u32, flags: u32, place: u64, size: u64, align: u64) -> Segment
+    ensures { result ≡ segment kind flags place size 0 align }
+{
+    Segment {
+        kind,
+        flags,
+        offset: place,
+        vaddr: place,
+        paddr: place,
+        filesz: size,
+        memsz: size,
+        align,
+    }
+}
+
+fn page_of(machine: u16) -> u64
+    ensures { result ≡ page_of machine }
+{
+    if machine == EM_AARCH64 { 65_536 } else { 4_096 }
+}
+
+/// What is loaded: the file up to `end`, and `zero` bytes behind it in memory.
+fn load_segment(end: u64, zero: u64, align: u64) -> Result<Segment, NoMemory>
+    ensures { IfOk result (λ load. load ≡ segment PT_LOAD (PF_R + PF_W) 0 end zero align) }
+{
+    let memsz = end.checked_add(zero).ok_or(NoMemory)?;
+    Ok(Segment {
+        memsz,
+        ..segment(PT_LOAD, PF_R + PF_W, 0, end, align)
+    })
+}
+
+/// The program headers.
+#[tactic(auto, unfolding(crate::specs::Headers::segments_of))]
+pub(crate) fn segments_of(
+    alloc: Global,
+    shape: &Shape,
+    parts: &Parts,
+    places: &Places,
+    dynamic_size: u64,
+) -> Result<List<Segment>, NoMemory>
+    ensures { IfOk result (λ segments. segments ≡ segments_of shape.now parts.now places.now dynamic_size) }
+{
+    let mut segments = List::new(alloc);
+    if shape.interp.is_some() {
+        let table_size = PHDR_SIZE as u64 * 4;
+        segments.push(segment(PT_PHDR, PF_R, EHDR_SIZE as u64, table_size, 8))?;
+        let size = parts.interp.as_bytes().len() as u64;
+        segments.push(segment(PT_INTERP, PF_R, places.interp, size, 1))?;
+    }
+    let end = places.dynamic.checked_add(dynamic_size).ok_or(NoMemory)?;
+    segments.push(load_segment(end, shape.zero, page_of(shape.machine))?)?;
+    segments.push(segment(PT_DYNAMIC, PF_R + PF_W, places.dynamic, dynamic_size, 8))?;
+    Ok(segments)
+}
+
+/// Appends the program headers.
+#[tactic(auto, unfolding(crate::specs::Headers::segment_bytes))]
+pub(crate) fn push_segments(out: &mut Vec<u8>, segments: &[Segment]) -> Result<(), NoMemory>
+    ensures { OnOk result (out.new.items ≡ out.old.items ++ segment_bytes segments.now) }
+{
+    for s in segments {
+        push_words(out, &[s.kind, s.flags])?;
+        push_longs(
+            out,
+            &[s.offset, s.vaddr, s.paddr, s.filesz, s.memsz, s.align],
+        )?;
+    }
+    Ok(())
+}
+
+/// Appends the null section and that of the symbols, which stand at a place.
+#[tactic(auto, unfolding(crate::specs::Headers::section_headers))]
+fn push_section_headers(out: &mut Vec<u8>, place: u64, size: u64) -> Result<(), NoMemory>
+    ensures { OnOk result (out.new.items ≡ out.old.items ++ section_headers place size) }
+{
+    push_longs(out, &[0, 0, 0, 0, 0, 0, 0, 0])?;
+    push_words(out, &[0, SHT_DYNSYM])?;
+    push_longs(out, &[0, place, place, size])?;
+    push_words(out, &[0, 1])?;
+    push_longs(out, &[0, SYM_SIZE])
+}
+
+/// Appends the section headers, where they are wanted.
+#[tactic(auto, unfolding(crate::specs::Headers::sections_of))]
+pub(crate) fn push_sections(
+    out: &mut Vec<u8>,
+    shape: &Shape,
+    parts: &Parts,
+    places: &Places,
+) -> Result<(), NoMemory>
+    ensures { OnOk result (out.new.items ≡ out.old.items ++ sections_of shape.now parts.now places.now) }
+{
+    if shape.sections {
+        push_section_headers(out, places.symbols, parts.symbols.as_bytes().len() as u64)?;
+    }
+    Ok(())
+}

@@ -1,0 +1,54 @@
+//! A made file, from its parts.
+
+ghost use Rattle.std.specs.Prelude.{◌≡◌, IfOk};
+ghost use Rattle.elf_make.specs.Object.{file_of, object_of};
+
+use crate::dynamic_table::{dynamic_size, entries_of, push_entries};
+use crate::headers::{push_file_header, push_sections, push_segments, segments_of};
+use crate::parts::{Parts, Places, parts_begin, parts_of, places_of, push_parts};
+use crate::shape::Shape;
+use crate::strings::strings_of;
+use crate::symbols::symbols_of;
+use crate::versions::versions_of;
+use byte_view::Entry;
+use load_model::{NoMemory, Text};
+use std::alloc::Global;
+
+/// The file with these parts: the headers, the parts, the dynamic table and the section headers.
+#[tactic(auto, unfolding(crate::specs::Object::file_of))]
+fn file_of(
+    alloc: Global,
+    shape: &Shape,
+    parts: &Parts,
+    places: &Places,
+    entries: &[Entry],
+) -> Result<Text, NoMemory>
+    ensures { IfOk result (λ text. text ≡ file_of shape.now parts.now places.now entries.now) }
+{
+    let size = dynamic_size(entries)?;
+    let end = places.dynamic.checked_add(size).ok_or(NoMemory)?;
+    let segments = segments_of(alloc, shape, parts, places, size)?;
+    let mut file = Vec::new(alloc);
+    push_file_header(&mut file, shape, end)?;
+    push_segments(&mut file, segments.as_slice())?;
+    push_parts(&mut file, parts)?;
+    push_entries(&mut file, entries)?;
+    push_sections(&mut file, shape, parts, places)?;
+    Ok(Text::from_vec(file))
+}
+
+/// The file of this shape, byte for byte.
+///
+/// A shape whose sizes pass what their words in the file can say is not made: the answer is `NoMemory`.
+#[tactic(auto, unfolding(crate::specs::Object::object_of))]
+pub fn make_object(alloc: Global, shape: &Shape) -> Result<Text, NoMemory>
+    ensures { IfOk result (λ text. text ≡ object_of shape.now) }
+{
+    let versions = versions_of(alloc, shape)?;
+    let texts = strings_of(alloc, shape, &versions)?;
+    let symbols = symbols_of(alloc, shape, &texts, &versions)?;
+    let parts = parts_of(alloc, shape, &versions, &texts, symbols.as_slice())?;
+    let places = places_of(parts_begin(shape), &parts)?;
+    let entries = entries_of(alloc, shape, &versions, &texts, &parts, &places)?;
+    file_of(alloc, shape, &parts, &places, entries.as_slice())
+}

@@ -1,0 +1,185 @@
+//! The parts of a made file between its headers and its dynamic table, and where they stand.
+
+ghost use Rattle.std.specs.Prelude.{◌≡◌, ◌+◌, ◌++◌, length, OnOk, IfOk};
+ghost use Rattle.elf_make.specs.HashTables.{sysv_table as sysv_bytes, gnu_table as gnu_bytes};
+ghost use Rattle.elf_make.specs.Symbols.{version_indexes as version_words, plain_imports};
+ghost use Rattle.elf_make.specs.Versions.{is_versioned};
+ghost use Rattle.elf_make.specs.Parts.{wanted, interp_of, parts_of, segment_count, parts_begin, places_of, symbol_parts, version_parts, part_bytes};
+
+use crate::hash_tables::{gnu_table, sysv_table};
+use crate::numbers::{after, push_bytes, push_padded};
+use crate::shape::Shape;
+use crate::strings::Strings;
+use crate::symbols::{Symbol, count_of, count_plain, symbol_table, version_indexes};
+use crate::version_tables::{verdef_of, verneed_of};
+use crate::versions::Versions;
+use byte_view::constants::{EHDR_SIZE, PHDR_SIZE};
+use load_model::{Name, NoMemory, Text};
+use std::alloc::Global;
+
+/// The parts. One that is not wanted is empty.
+#[derive(Drop)]
+pub(crate) struct Parts {
+    pub(crate) interp: Text,
+    pub(crate) strings: Text,
+    pub(crate) symbols: Text,
+    pub(crate) sysv: Text,
+    pub(crate) gnu: Text,
+    pub(crate) versym: Text,
+    pub(crate) verdef: Text,
+    pub(crate) verneed: Text,
+}
+
+/// Where the parts and the dynamic table stand in the file, and in memory.
+#[derive(Clone, Copy)]
+pub(crate) struct Places {
+    pub(crate) interp: u64,
+    pub(crate) strings: u64,
+    pub(crate) symbols: u64,
+    pub(crate) sysv: u64,
+    pub(crate) gnu: u64,
+    pub(crate) versym: u64,
+    pub(crate) verdef: u64,
+    pub(crate) verneed: u64,
+    pub(crate) dynamic: u64,
+}
+
+/// The interpreter and a zero, where there is one.
+fn interp_of(alloc: Global, interp: &Option<Name>) -> Result<Text, NoMemory>
+    ensures { IfOk result (λ part. part ≡ interp_of interp.now) }
+{
+    let mut part = Vec::new(alloc);
+    if let Some(path) = interp {
+        push_bytes(&mut part, path.as_bytes())?;
+        push_bytes(&mut part, &[0])?;
+    }
+    Ok(Text::from_vec(part))
+}
+
+/// The System V hash table, where it is wanted.
+fn sysv_of(alloc: Global, shape: &Shape, symbols: &[Symbol]) -> Result<Text, NoMemory>
+    ensures { IfOk result (λ part. part ≡ wanted shape.now.sysv (sysv_bytes (length symbols.now))) }
+{
+    if shape.sysv {
+        sysv_table(alloc, count_of(symbols.len())?)
+    } else {
+        Ok(Text::from_vec(Vec::new(alloc)))
+    }
+}
+
+/// The GNU hash table, where it is wanted: it lists the symbols behind the imports without a value.
+fn gnu_of(alloc: Global, shape: &Shape, symbols: &[Symbol]) -> Result<Text, NoMemory>
+    ensures { IfOk result (λ part. part ≡ wanted shape.now.gnu (gnu_bytes (1 + length (plain_imports shape.now)) symbols.now)) }
+{
+    if shape.gnu {
+        let plain = count_of(count_plain(shape))?;
+        gnu_table(alloc, plain.checked_add(1).ok_or(NoMemory)?, symbols)
+    } else {
+        Ok(Text::from_vec(Vec::new(alloc)))
+    }
+}
+
+/// The version indexes, where there are versions.
+fn versym_of(alloc: Global, versions: &Versions, symbols: &[Symbol]) -> Result<Text, NoMemory>
+    ensures { IfOk result (λ part. part ≡ wanted (is_versioned versions.now) (version_words symbols.now)) }
+{
+    if versions.is_versioned() {
+        version_indexes(alloc, symbols)
+    } else {
+        Ok(Text::from_vec(Vec::new(alloc)))
+    }
+}
+
+/// The parts of a file.
+#[tactic(auto, unfolding(crate::specs::Parts::parts_of))]
+pub(crate) fn parts_of(
+    alloc: Global,
+    shape: &Shape,
+    versions: &Versions,
+    texts: &Strings,
+    symbols: &[Symbol],
+) -> Result<Parts, NoMemory>
+    ensures { IfOk result (λ parts. parts ≡ parts_of shape.now versions.now texts.now symbols.now) }
+{
+    Ok(Parts {
+        interp: interp_of(alloc, &shape.interp)?,
+        strings: texts.table(alloc)?,
+        symbols: symbol_table(alloc, symbols)?,
+        sysv: sysv_of(alloc, shape, symbols)?,
+        gnu: gnu_of(alloc, shape, symbols)?,
+        versym: versym_of(alloc, versions, symbols)?,
+        verdef: verdef_of(alloc, texts, &shape.soname, versions.definitions.as_slice())?,
+        verneed: verneed_of(alloc, texts, versions)?,
+    })
+}
+
+/// How many program headers there are.
+pub(crate) fn segment_count(shape: &Shape) -> u16
+    ensures { result ≡ segment_count shape.now }
+{
+    if shape.interp.is_some() { 4 } else { 2 }
+}
+
+/// Where the parts begin, behind the ELF header and the program headers.
+pub(crate) fn parts_begin(shape: &Shape) -> u64
+    ensures { result ≡ parts_begin shape.now }
+{
+    EHDR_SIZE as u64 + PHDR_SIZE as u64 * segment_count(shape) as u64
+}
+
+/// Where the parts stand, the first of them at `begin`.
+#[tactic(auto, unfolding(crate::specs::Parts::places_of))]
+pub(crate) fn places_of(begin: u64, parts: &Parts) -> Result<Places, NoMemory>
+    ensures { IfOk result (λ places. places ≡ places_of begin parts.now) }
+{
+    let strings = after(begin, parts.interp.as_bytes())?;
+    let symbols = after(strings, parts.strings.as_bytes())?;
+    let sysv = after(symbols, parts.symbols.as_bytes())?;
+    let gnu = after(sysv, parts.sysv.as_bytes())?;
+    let versym = after(gnu, parts.gnu.as_bytes())?;
+    let verdef = after(versym, parts.versym.as_bytes())?;
+    let verneed = after(verdef, parts.verdef.as_bytes())?;
+    let dynamic = after(verneed, parts.verneed.as_bytes())?;
+    Ok(Places {
+        interp: begin,
+        strings,
+        symbols,
+        sysv,
+        gnu,
+        versym,
+        verdef,
+        verneed,
+        dynamic,
+    })
+}
+
+/// Appends the interpreter, the strings, the symbols and their hash tables, each filled up.
+#[tactic(auto, unfolding(crate::specs::Parts::symbol_parts))]
+fn push_symbol_parts(out: &mut Vec<u8>, parts: &Parts) -> Result<(), NoMemory>
+    ensures { OnOk result (out.new.items ≡ out.old.items ++ symbol_parts parts.now) }
+{
+    push_padded(out, parts.interp.as_bytes())?;
+    push_padded(out, parts.strings.as_bytes())?;
+    push_padded(out, parts.symbols.as_bytes())?;
+    push_padded(out, parts.sysv.as_bytes())?;
+    push_padded(out, parts.gnu.as_bytes())
+}
+
+/// Appends the tables of versions, each filled up.
+#[tactic(auto, unfolding(crate::specs::Parts::version_parts))]
+fn push_version_parts(out: &mut Vec<u8>, parts: &Parts) -> Result<(), NoMemory>
+    ensures { OnOk result (out.new.items ≡ out.old.items ++ version_parts parts.now) }
+{
+    push_padded(out, parts.versym.as_bytes())?;
+    push_padded(out, parts.verdef.as_bytes())?;
+    push_padded(out, parts.verneed.as_bytes())
+}
+
+/// Appends the parts, each filled up.
+#[tactic(auto, unfolding(crate::specs::Parts::part_bytes))]
+pub(crate) fn push_parts(out: &mut Vec<u8>, parts: &Parts) -> Result<(), NoMemory>
+    ensures { OnOk result (out.new.items ≡ out.old.items ++ part_bytes parts.now) }
+{
+    push_symbol_parts(out, parts)?;
+    push_version_parts(out, parts)
+}
