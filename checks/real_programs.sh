@@ -5,8 +5,11 @@ set -u
 cd "$(dirname "$0")/.." || exit 1
 appdir=$PWD/crates/appdir/out/appdir
 hosts='ld-linux-x86-64.so.2 libc.so.6 libm.so.6 libdl.so.2 libpthread.so.0 librt.so.1 libresolv.so.2 libutil.so.1'
+# a library of a listed directory that only this check has
+listed=/usr/local/lib/libappdir-check.so.1
 work=$(mktemp -d) || exit 1
-trap 'rm -rf "$work"' EXIT
+made=
+trap 'rm -rf "$work" $made' EXIT
 passed=0 failed=0 skipped=0
 
 pass() { passed=$((passed + 1)); echo "ok: $1"; }
@@ -85,6 +88,34 @@ if printf 'int main(void) { return 0; }\n' | cc -static -no-pie -x c -o "$work/s
     refuses 'a static program' "refused 11: damaged $work/static: NoDynamic" quick "$work/static" "$work/out"
 else
     skip 'no static program can be made here'
+fi
+
+# A name that is not UTF-8, in a copy of a real program: its place in the string table is told.
+if [ -r /usr/bin/true ] && command -v readelf >/dev/null; then
+    cp /usr/bin/true "$work/named"
+    at=$(LC_ALL=C grep -abo 'libc\.so\.6' "$work/named" | head -n 1 | cut -d: -f1)
+    strings=$(readelf -SW "$work/named" | sed -n 's/.* \.dynstr *STRTAB *[0-9a-f]* \([0-9a-f]*\) .*/\1/p')
+    printf '\377' | dd of="$work/named" bs=1 seek="$at" conv=notrunc 2>/dev/null
+    refuses 'a name that is no text' "refused 11: damaged $work/named: BadName $((at - 0x$strings))" quick "$work/named" "$work/out"
+else
+    skip 'there is no /usr/bin/true or no readelf'
+fi
+
+# A listed library that is cut off: a copy of a real one, under a name of this check's own.
+library=$(ldd /usr/bin/true 2>/dev/null | sed -n 's/.*libc\.so\.6 => \([^ ]*\).*/\1/p')
+if [ -r "$library" ] && [ -w /usr/local/lib ] && [ ! -e "$listed" ] &&
+    printf 'int check(void) { return 0; }\n' |
+    cc -shared -fPIC -Wl,-soname,"${listed##*/}" -x c -o "$work/check.so" - 2>/dev/null &&
+    printf 'int check(void);\nint main(void) { return check(); }\n' |
+    cc -x c -o "$work/needs" - -x none "$work/check.so" 2>/dev/null; then
+    made=$listed
+    head -c 100 "$library" >"$listed"
+    headers=$(od -An -tu2 -j56 -N2 "$library")
+    refuses 'a cut library' "refused 11: damaged $listed: Short $((64 + 56 * headers)) 100" quick "$work/needs" "$work/out" "${listed##*/}" libc.so.6 ld-linux-x86-64.so.2
+    rm -f "$listed"
+    made=
+else
+    skip 'no library can be put into a listed directory here'
 fi
 
 [ -e "$work/out" ] && fail 'a refused call made its folder'

@@ -2,7 +2,6 @@ pub mod AskLemmas
 pub mod CompletenessLemmas
 pub mod DirectoryLemmas
 pub mod EndingLemmas
-pub mod FaceLemmas
 pub mod Lists
 pub mod LoadingLemmas
 pub mod NamesLemmas

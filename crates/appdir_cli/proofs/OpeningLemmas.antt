@@ -6,6 +6,7 @@ use Rattle.std.proofs.Math.Seq.{take-length}
 use Rattle.std.specs.List.{slice_index}
 use Rattle.std.specs.Str.{bytes_eq}
 use Rattle.load_model.proofs.TwoWorlds.{same_bytes}
+use Rattle.load_model.specs.Faces.{first_flaw}
 use Rattle.load_model.specs.World.{World, file_at, is_other, kind_of_file}
 use Rattle.load_model.specs.declared.world.WorldFile.{WorldFile}
 use Rattle.ports.specs.Reading.{bytes_at, bytes_of, found_at, found_of}
@@ -15,7 +16,7 @@ use Rattle.byte_view.specs.HeaderFlaws.{header_flaw, ident_flaw}
 use Rattle.byte_view.specs.declared.constants.TheConstants.{LONGEST_FILE}
 use Rattle.appdir_cli.specs.declared.refusal.Refusal.TheVariants.{Damaged as DamagedFile}
 use Rattle.appdir_cli.proofs.Lists.{take_within}
-use Rattle.appdir_cli.specs.ThinFaces.{flaw_in, thin_face_of}
+use Rattle.appdir_cli.specs.ThinFaces.{thin_face_of}
 use Rattle.appdir_cli.specs.declared.thin_faces.ThinFace.{ThinFace}
 use Rattle.appdir_cli.specs.declared.thin_faces.Unread.{Unread}
 use Rattle.appdir_cli.specs.declared.thin_faces.Unread.TheVariants.{Flawed}
@@ -118,7 +119,7 @@ lt_true a b h = grind (arith, nat_tests)
 
 -- a file that is too long is not read
 too_long : (bytes : List ℕ) → LONGEST_FILE < length bytes → thin_face_of bytes ≡ Err (Flawed (flaw 34 (length bytes) 0))
-unfolding thin_face_of flaw_in header_flaw ident_flaw
+unfolding thin_face_of first_flaw header_flaw ident_flaw
 too_long bytes h = rw (lt_true LONGEST_FILE (length bytes) h) refl
 
 right_here : (world : World) (path id : List ℕ) (len : ℕ) (file : HasFile world path id len) → is_other EM_X86_64 (bytes_at world path) ≡ false → is_other EM_X86_64 file.file.bytes ≡ false

@@ -1,8 +1,9 @@
+mod faces;
 pub(crate) mod made;
 pub(crate) mod outside;
 
 use crate::{Status, exit_number, status_name};
-use made::{library, program};
+use made::{changed, library, program, program_with_run_path};
 use outside::*;
 use path_text::{Abs, Rel};
 use std::alloc::Global;
@@ -85,14 +86,16 @@ fn damaged_program_is_refused(rt: HostRuntime) -> Result<(), Fail> {
         (448, b"\0", "StringsRange"),
         (330, b"A", "StringsEnd"),
         (384, b"\x0b", "StringPlace 11"),
+        (464, b"\x10", "EntrySize 16"),
+        (360, b"\0", "HashRange 4"),
+        (364, b"\xff\xff\xff\xff", "HashRange 4"),
+        (392, b"\x15", "NoSymbolCount"),
+        (432, b"\0\0\0\0\0\x01\0\0", "SymbolRange"),
+        (321, b"\xff", "BadName 1"),
     ];
+    let whole = program(alloc, &["libc.so.6"])?;
     for (place, change, flaw) in rows {
-        let mut bytes = program(alloc, &["libc.so.6"])?;
-        for (i, byte) in change.iter().enumerate() {
-            if let Some(at) = bytes.get_mut(i.wrapping_add(place)) {
-                *at = *byte;
-            }
-        }
+        let bytes = changed(alloc, whole.as_slice(), place, change)?;
         assert!(rt; is_damaged(alloc, APP, bytes.as_slice(), flaw)?, "{flaw}");
     }
     Ok(())
@@ -147,10 +150,8 @@ fn what_is_not_built_yet(rt: HostRuntime) -> Result<(), Fail> {
 #[test]
 fn run_path_is_not_built_yet(rt: HostRuntime) -> Result<(), Fail> {
     let alloc = rt.alloc();
-    let mut bytes = program(alloc, &["libc.so.6"])?;
-    if let Some(tag) = bytes.get_mut(376) {
-        *tag = 29;
-    }
+    let needs = ["libq.so.1", "libc.so.6"];
+    let bytes = program_with_run_path(alloc, &needs, "/opt/app/lib")?;
     let mut outside = host_without(alloc, APP)?;
     add(alloc, &mut outside, APP, APP, bytes.as_slice())?;
     assert!(rt; refuses(alloc, outside, &PACK, NOT_BUILT)?);
