@@ -227,6 +227,12 @@ fn program_of_another_class_is_none(rt: HostRuntime) -> Result<(), Fail> {
     let mut outside = host_without(alloc, APP)?;
     add(alloc, &mut outside, APP, APP, CLASS_32)?;
     assert!(rt; refuses(alloc, outside, &PACK, NO_PROGRAM)?);
+
+    let whole = program(alloc, &["libc.so.6"])?;
+    let bytes = changed(alloc, whole.as_slice(), 4, b"\x01")?;
+    let mut outside = host_without(alloc, APP)?;
+    add(alloc, &mut outside, APP, APP, bytes.as_slice())?;
+    assert!(rt; refuses(alloc, outside, &PACK, NO_PROGRAM)?);
     Ok(())
 }
 
