@@ -15,4 +15,6 @@ mod tests;
 pub use byte_view::Entry;
 pub use faults::DynFault;
 pub use flags::{ObjectFlags, StateFlags};
+pub use strings::strings_size;
 pub use table::Dyn;
+pub use tags::{has_tag, value_of};

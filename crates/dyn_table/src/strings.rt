@@ -40,7 +40,7 @@ fn strings_at(entries: &[Entry]) -> u64
 }
 
 /// The size of the string table, or 0.
-fn strings_size(entries: &[Entry]) -> u64
+pub fn strings_size(entries: &[Entry]) -> u64
     ensures { result ≡ strings_size entries.now }
 {
     value_of(DT_STRSZ, entries).unwrap_or(0)

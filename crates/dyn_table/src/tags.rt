@@ -16,13 +16,14 @@ use byte_view::constants::{
 };
 
 /// The value of the first entry with this tag.
-pub(crate) fn value_of(tag: u64, entries: &[Entry]) -> Option<u64>
+pub fn value_of(tag: u64, entries: &[Entry]) -> Option<u64>
     ensures { result ≡ value_of tag entries.now }
 {
     entries.iter().find(|e| e.tag == tag).map(|e| e.value)
 }
 
-fn has_tag(tag: u64, entries: &[Entry]) -> bool
+/// Does an entry have this tag?
+pub fn has_tag(tag: u64, entries: &[Entry]) -> bool
     ensures { result ≡ has_tag tag entries.now }
 {
     entries.iter().any(|e| e.tag == tag)

@@ -17,22 +17,9 @@ use crate::texts::{is_text, text_of};
 use bitflags::Flags;
 use byte_view::Entry;
 use byte_view::constants::{DT_FLAGS, DT_NEEDED, DT_SYMBOLIC, DT_VERSYM};
-use dyn_table::{Dyn, ObjectFlags};
+use dyn_table::{Dyn, ObjectFlags, has_tag, value_of};
 use load_model::{List, Name, NoMemory};
 use std::alloc::Global;
-
-/// The value of the first entry with this tag.
-fn value_of(tag: u64, entries: &[Entry]) -> Option<u64>
-    ensures { result ≡ value_of tag entries.now }
-{
-    entries.iter().find(|e| e.tag == tag).map(|e| e.value)
-}
-
-fn has_tag(tag: u64, entries: &[Entry]) -> bool
-    ensures { result ≡ has_tag tag entries.now }
-{
-    entries.iter().any(|e| e.tag == tag)
-}
 
 /// Do these flags say that the object is symbolic?
 fn has_symbolic_bit(flags: Option<u64>) -> bool

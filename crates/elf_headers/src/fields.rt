@@ -7,7 +7,7 @@ ghost use Rattle.byte_view.specs.Numbers.{number_at};
 use byte_view::{Segment, u16_at, u32_at, u64_at};
 
 /// The Elf64_Half at a place.
-pub(crate) fn half(bytes: &[u8], at: u64) -> u16
+pub fn half(bytes: &[u8], at: u64) -> u16
     requires { at + 2 ≤ length bytes.now }
     ensures { result ≡ number_at 2 bytes.now at }
 {
@@ -15,7 +15,7 @@ pub(crate) fn half(bytes: &[u8], at: u64) -> u16
 }
 
 /// The Elf64_Word at a place.
-pub(crate) fn word(bytes: &[u8], at: u64) -> u32
+pub fn word(bytes: &[u8], at: u64) -> u32
     requires { at + 4 ≤ length bytes.now }
     ensures { result ≡ number_at 4 bytes.now at }
 {
@@ -23,7 +23,7 @@ pub(crate) fn word(bytes: &[u8], at: u64) -> u32
 }
 
 /// The Elf64_Xword, Elf64_Addr or Elf64_Off at a place.
-pub(crate) fn xword(bytes: &[u8], at: u64) -> u64
+pub fn xword(bytes: &[u8], at: u64) -> u64
     requires { at + 8 ≤ length bytes.now }
     ensures { result ≡ number_at 8 bytes.now at }
 {

@@ -14,5 +14,6 @@ mod tests;
 
 pub use byte_view::Segment;
 pub use faults::ElfFault;
+pub use fields::{half, word, xword};
 pub use headers::Elf;
 pub use laws::{at_most_one_load_holds, loads_are_apart};

@@ -11,9 +11,9 @@ ghost use Rattle.sym_tables.specs.Faults.{flaw_of};
 
 use crate::faults::{SymFault, flawed};
 use crate::tags::symbols_at;
-use crate::words::{half, word, xword};
 use byte_view::constants::{SHDR_SIZE, SHT_DYNSYM, SYM_SIZE};
 use byte_view::{Entry, Flaw};
+use elf_headers::{half, word, xword};
 
 /// Does the file have all of its section headers, and are they of the size that is read?
 fn has_sections(bytes: &[u8]) -> bool

@@ -14,9 +14,9 @@ ghost use Rattle.sym_tables.specs.FoundTables.{IsFoundGnu, IsGnuAt, front_table}
 ghost use Rattle.sym_tables.specs.Places.{AreFrontParts, HasNoReach, IsFrontOf, IsGnuHeader, IsReachOf};
 
 use crate::faults::{SymFault, flawed};
-use crate::words::{word, words, xwords};
+use crate::words::{words, xwords};
 use byte_view::constants::DT_GNU_HASH;
-use elf_headers::Elf;
+use elf_headers::{Elf, word};
 use std::alloc::{AllocError, Global};
 use std::marker::Model;
 

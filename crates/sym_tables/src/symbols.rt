@@ -9,9 +9,8 @@ ghost use Rattle.load_model.specs.SymbolTable.{symbol_of, symbols_in};
 ghost use Rattle.sym_tables.specs.Faults.{flaw_of};
 
 use crate::faults::{SymFault, flawed};
-use crate::words::{half, word, xword};
 use byte_view::constants::SYM_SIZE;
-use elf_headers::Elf;
+use elf_headers::{Elf, half, word, xword};
 use load_model::RawSym;
 use std::alloc::{AllocError, Global};
 

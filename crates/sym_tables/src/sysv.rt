@@ -13,9 +13,9 @@ ghost use Rattle.sym_tables.specs.FoundTables.{IsFoundSysv, IsSysvAt};
 ghost use Rattle.sym_tables.specs.Places.{IsSysvPlace, sysv_length, sysv_words};
 
 use crate::faults::{SymFault, flawed};
-use crate::words::{word, words};
+use crate::words::words;
 use byte_view::constants::DT_HASH;
-use elf_headers::Elf;
+use elf_headers::{Elf, word};
 use std::alloc::{AllocError, Global};
 use std::marker::Model;
 

@@ -11,9 +11,9 @@ ghost use Rattle.sym_tables.specs.ReadSymbols.{AreTablesOf};
 use crate::faults::SymFault;
 use crate::gnu::FoundGnu;
 use crate::sysv::FoundSysv;
-use crate::tags::value_of;
 use byte_view::Entry;
 use byte_view::constants::{DT_GNU_HASH, DT_HASH};
+use dyn_table::value_of;
 use elf_headers::Elf;
 use std::alloc::Global;
 

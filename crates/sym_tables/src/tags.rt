@@ -2,34 +2,20 @@
 
 ghost use Rattle.std.specs.Prelude.{◌≡◌};
 ghost use Rattle.byte_view.specs.Checks.{TellsBy};
-ghost use Rattle.byte_view.specs.Dynamic.{strings_size, value_of};
 ghost use Rattle.load_model.specs.SymbolFlaws.{wrong_symbol_size};
 ghost use Rattle.load_model.specs.SymbolTable.{symbols_at};
 ghost use Rattle.sym_tables.specs.Faults.{flaw_of};
 
 use crate::faults::{SymFault, flawed};
 use byte_view::Entry;
-use byte_view::constants::{DT_STRSZ, DT_SYMENT, DT_SYMTAB, SYM_SIZE};
-
-/// The value of the first entry with this tag.
-pub(crate) fn value_of(tag: u64, entries: &[Entry]) -> Option<u64>
-    ensures { result ≡ value_of tag entries.now }
-{
-    entries.iter().find(|e| e.tag == tag).map(|e| e.value)
-}
+use byte_view::constants::{DT_SYMENT, DT_SYMTAB, SYM_SIZE};
+use dyn_table::value_of;
 
 /// The address of the symbols, or 0.
 pub(crate) fn symbols_at(entries: &[Entry]) -> u64
     ensures { result ≡ symbols_at entries.now }
 {
     value_of(DT_SYMTAB, entries).unwrap_or(0)
-}
-
-/// The size of the string table, or 0.
-pub(crate) fn strings_size(entries: &[Entry]) -> u64
-    ensures { result ≡ strings_size entries.now }
-{
-    value_of(DT_STRSZ, entries).unwrap_or(0)
 }
 
 /// Is the size of a symbol the one that is read?

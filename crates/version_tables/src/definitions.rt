@@ -16,10 +16,10 @@ ghost use Rattle.version_tables.specs.Walks.{definition_of, from_on};
 use crate::chains::check_next;
 use crate::faults::{VersionFault, flawed};
 use crate::records::{Verdaux, Verdef, verdaux_at, verdef_at};
-use crate::tables::{check_text, count_by, strings_size, value_of};
+use crate::tables::{check_text, count_by};
 use byte_view::Entry;
 use byte_view::constants::{DT_VERDEF, DT_VERDEFNUM, VER_CURRENT, VERSYM_VERSION};
-use dyn_table::Dyn;
+use dyn_table::{Dyn, strings_size, value_of};
 use elf_headers::Elf;
 use std::alloc::Global;
 

@@ -17,10 +17,10 @@ use crate::asked::{Asked, read_asked};
 use crate::chains::check_next;
 use crate::faults::{VersionFault, flawed};
 use crate::records::{Verneed, verneed_at};
-use crate::tables::{check_text, count_by, strings_size, value_of};
+use crate::tables::{check_text, count_by};
 use byte_view::Entry;
 use byte_view::constants::{DT_VERNEED, DT_VERNEEDNUM, VER_CURRENT};
-use dyn_table::Dyn;
+use dyn_table::{Dyn, strings_size, value_of};
 use elf_headers::Elf;
 use std::alloc::Global;
 

@@ -8,8 +8,8 @@ ghost use Rattle.byte_view.specs.declared.constants.TheConstants.{HIGHEST_END};
 ghost use Rattle.load_model.specs.VersionFlaws.{is_unbacked};
 ghost use Rattle.version_tables.specs.Records.{verdaux_words, verdef_words, vernaux_words, verneed_words};
 
-use crate::memory::{backed, half, word};
-use elf_headers::Elf;
+use crate::memory::backed;
+use elf_headers::{Elf, half, word};
 
 /// A version definition.
 #[derive(Clone, Copy)]

@@ -16,11 +16,10 @@ ghost use Rattle.version_tables.specs.Walks.{from_on};
 
 use crate::faults::{VersionFault, flawed};
 use crate::indexes::place_in;
-use crate::memory::{backed, half};
-use crate::tables::value_of;
+use crate::memory::backed;
 use byte_view::constants::{DT_VERSYM, VER_NDX_GLOBAL, VERSYM_HIDDEN, VERSYM_VERSION};
-use dyn_table::Dyn;
-use elf_headers::Elf;
+use dyn_table::{Dyn, value_of};
+use elf_headers::{Elf, half};
 use std::alloc::{AllocError, Global};
 
 /// The words of a table in the file.

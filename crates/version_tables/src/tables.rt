@@ -3,22 +3,13 @@
 ghost use Rattle.std.specs.Prelude.{◌≡◌, [], nat_le};
 ghost use Rattle.std.specs.Option.{option_copied, unwrap_or};
 ghost use Rattle.byte_view.specs.Checks.{TellsBy, flaw, flaw_where};
-ghost use Rattle.byte_view.specs.Dynamic.{string_at, strings_size, value_of};
+ghost use Rattle.byte_view.specs.Dynamic.{string_at};
 ghost use Rattle.dyn_table.specs.Table.{IsTableOf};
 ghost use Rattle.load_model.specs.VersionTables.{count_by, text_of};
 ghost use Rattle.version_tables.specs.Faults.{flaw_of};
 
 use crate::faults::{VersionFault, flawed};
-use byte_view::Entry;
-use byte_view::constants::DT_STRSZ;
 use dyn_table::Dyn;
-
-/// The value of the first entry with this tag.
-pub(crate) fn value_of(tag: u64, entries: &[Entry]) -> Option<u64>
-    ensures { result ≡ value_of tag entries.now }
-{
-    entries.iter().find(|e| e.tag == tag).map(|e| e.value)
-}
 
 /// How many records a table has, of which the dynamic table says where it is and how many they are.
 pub(crate) fn count_by(table: Option<u64>, said: Option<u64>) -> u64
@@ -29,13 +20,6 @@ pub(crate) fn count_by(table: Option<u64>, said: Option<u64>) -> u64
     } else {
         0
     }
-}
-
-/// The size of the string table, or 0.
-pub(crate) fn strings_size(entries: &[Entry]) -> u64
-    ensures { result ≡ strings_size entries.now }
-{
-    value_of(DT_STRSZ, entries).unwrap_or(0)
 }
 
 /// Does a place lie in a string table of this size?
