@@ -57,7 +57,7 @@ packs() {
         fail "$program: '$said'"
     elif [ "$(ls -A "$out")" != AppRun ] || ! cmp -s "$program" "$out/AppRun" || [ ! -x "$out/AppRun" ]; then
         fail "$program: AppRun is not an executable copy, alone in its folder"
-    elif [ "$("$out/AppRun" --version 2>&1 | tail -n +2)" != "$("$program" --version 2>&1 | tail -n +2)" ]; then
+    elif [ "$("$out/AppRun" --version 2>&1)" != "$("$program" --version 2>&1)" ]; then
         fail "$program: AppRun prints another --version"
     else
         pass "$program: $said"
