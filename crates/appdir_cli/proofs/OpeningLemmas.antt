@@ -27,6 +27,7 @@ use Rattle.appdir_cli.specs.declared.stop.Stop.TheVariants.{Refused, Read, NoMem
 use Rattle.appdir_cli.specs.Opening.{EM_X86_64, HasFile, IsReadCause, opened_at, opened_of, seen, seen_as}
 use Rattle.appdir_cli.specs.declared.opening.Opened.{Opened}
 use Rattle.appdir_cli.specs.declared.opening.Opened.TheVariants.{Passed, Refused as Unreadable}
+use Rattle.byte_view.specs.declared.flaws.TheConstants.{TOO_BIG}
 
 found_in_rest : (path : List ℕ) (f file : WorldFile) (fs : List WorldFile) → (b : Bool) → bytes_eq f.path path ≡ b → (find (λ g. bytes_eq g.path path) fs ≡ Some file → file.path ≡ path) → cond b (Some f) (find (λ g. bytes_eq g.path path) fs) ≡ Some file → file.path ≡ path
 found_in_rest path f file fs true e more h =
@@ -118,21 +119,21 @@ lt_true : (a b : ℕ) → a < b → nat_lt a b ≡ true
 lt_true a b h = grind (arith, nat_tests)
 
 -- a file that is too long is not read
-too_long : (bytes : List ℕ) → LONGEST_FILE < length bytes → thin_face_of bytes ≡ Err (Flawed (flaw 34 (length bytes) 0))
+too_long : (bytes : List ℕ) → LONGEST_FILE < length bytes → thin_face_of bytes ≡ Err (Flawed (flaw TOO_BIG (length bytes) 0))
 unfolding thin_face_of first_flaw header_flaw ident_flaw
 too_long bytes h = rw (lt_true LONGEST_FILE (length bytes) h) refl
 
 right_here : (world : World) (path id : List ℕ) (len : ℕ) (file : HasFile world path id len) → is_other EM_X86_64 (bytes_at world path) ≡ false → is_other EM_X86_64 file.file.bytes ≡ false
 right_here world path id len file right = ap (λ l. is_other EM_X86_64 l) (sym (bytes_are world path id len file)) ∙ right
 
-pub opened_long : (world : World) (path id : List ℕ) (len : ℕ) → HasFile world path id len → is_other EM_X86_64 (bytes_at world path) ≡ false → LONGEST_FILE < len → Unreadable (DamagedFile path (flaw 34 len 0)) ≡ opened_at world path
+pub opened_long : (world : World) (path id : List ℕ) (len : ℕ) → HasFile world path id len → is_other EM_X86_64 (bytes_at world path) ≡ false → LONGEST_FILE < len → Unreadable (DamagedFile path (flaw TOO_BIG len 0)) ≡ opened_at world path
 opened_long world path id len file right long =
     let big : LONGEST_FILE < length file.file.bytes = omega (arith, file.len_is) in
-    let unread : thin_face_of file.file.bytes ≡ Err (Flawed (flaw 34 (length file.file.bytes) 0)) = too_long file.file.bytes big in
+    let unread : thin_face_of file.file.bytes ≡ Err (Flawed (flaw TOO_BIG (length file.file.bytes) 0)) = too_long file.file.bytes big in
     sym (file_opened world path file.file file.lies
-    ∙ opened_right file.file (Err (Flawed (flaw 34 (length file.file.bytes) 0))) (right_here world path id len file right) unread
-    ∙ ap (λ p. Unreadable (DamagedFile p (flaw 34 (length file.file.bytes) 0))) file.path_is
-    ∙ ap (λ k. Unreadable (DamagedFile path (flaw 34 k 0))) file.len_is)
+    ∙ opened_right file.file (Err (Flawed (flaw TOO_BIG (length file.file.bytes) 0))) (right_here world path id len file right) unread
+    ∙ ap (λ p. Unreadable (DamagedFile p (flaw TOO_BIG (length file.file.bytes) 0))) file.path_is
+    ∙ ap (λ k. Unreadable (DamagedFile path (flaw TOO_BIG k 0))) file.len_is)
 
 -- what is seen in the bytes that were read is what is to be seen at the path
 pub opened_seen : (world : World) (path id bytes : List ℕ) (len : ℕ) → HasFile world path id len → is_other EM_X86_64 (bytes_at world path) ≡ false → bytes ≡ take len (bytes_at world path) → seen path id bytes ≡ opened_at world path

@@ -11,6 +11,7 @@ use crate::stop::Stop;
 use crate::thin_faces::{ThinFace, ThinFault, Unread, thin_face};
 use byte_view::Flaw;
 use byte_view::constants::LONGEST_FILE;
+use byte_view::flaws::TOO_BIG;
 use load_model::{Name, Text, WorldFile};
 use path_text::{Abs, NoMemory};
 use ports::{Found, ProbeStop, Tree};
@@ -89,10 +90,10 @@ fn open_object<T: Tree>(
 
 /// Why a file of this length is not read.
 fn too_big(alloc: Global, path: &Abs, len: u64) -> Result<Refusal, NoMemory>
-    ensures { IfOk result (λ refusal. refusal ≡ Refusal.Damaged path.now (flaw 34 len 0)) }
+    ensures { IfOk result (λ refusal. refusal ≡ Refusal.Damaged path.now (flaw TOO_BIG len 0)) }
 {
     let flaw = Flaw {
-        code: 34,
+        code: TOO_BIG,
         a: len,
         b: 0,
     };

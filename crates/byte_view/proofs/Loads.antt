@@ -6,6 +6,7 @@ use Rattle.byte_view.specs.Checks.{first_some, flaw, flaw_at, flaw_where}
 use Rattle.byte_view.specs.Headers.{headers, is_load, memory_end}
 use Rattle.byte_view.specs.HeaderFlaws.{bad_range, falling, first_below, has_bad_range, header_flaw, ident_flaw, no_load, overlapping, segment_flaw, word_flaw}
 use Rattle.byte_view.specs.declared.flaws.Flaw.{Flaw}
+use Rattle.byte_view.specs.declared.flaws.TheConstants.{NO_LOAD, SEGMENT_OVERLAP, SEGMENT_RANGE}
 use Rattle.byte_view.specs.Memory.{holds}
 use Rattle.byte_view.specs.declared.segments.Segment.{Segment}
 use Rattle.byte_view.specs.Sound.{AreSound}
@@ -65,21 +66,21 @@ none_first (Some f) more e = absurd (cc)
 none_overlaps : (segments : List Segment) → overlapping segments ≡ None → first_below memory_end 0 0 segments ≡ None
 none_overlaps segments e = go (first_below memory_end 0 0 segments) e
   where
-    go : (o : Option ℕ) → flaw_at 12 o ≡ None → o ≡ None
+    go : (o : Option ℕ) → flaw_at SEGMENT_OVERLAP o ≡ None → o ≡ None
     go None e = refl
     go (Some i) e = absurd (cc)
 
 none_bad : (len : ℕ) (segments : List Segment) → bad_range len segments ≡ None → position_from (has_bad_range len) 0 segments ≡ None
 none_bad len segments e = go (position_from (has_bad_range len) 0 segments) e
   where
-    go : (o : Option ℕ) → flaw_at 10 o ≡ None → o ≡ None
+    go : (o : Option ℕ) → flaw_at SEGMENT_RANGE o ≡ None → o ≡ None
     go None e = refl
     go (Some i) e = absurd (cc)
 
 some_load : (segments : List Segment) → no_load segments ≡ None → list_any is_load segments ≡ true
 some_load segments e = go (list_any is_load segments) e
   where
-    go : (b : Bool) → flaw_where (not b) (flaw 9 0 0) ≡ None → b ≡ true
+    go : (b : Bool) → flaw_where (not b) (flaw NO_LOAD 0 0) ≡ None → b ≡ true
     go true e = refl
     go false e = absurd (cc)
 

@@ -9,6 +9,7 @@ use Rattle.byte_view.specs.Dynamic.{dynamic_table, is_end, strings_at, strings_s
 use Rattle.byte_view.specs.declared.constants.TheConstants.{DT_NEEDED, DT_HASH, DT_STRTAB, DT_SYMTAB, DT_STRSZ, DT_SYMENT, DT_SONAME, DT_RPATH, DT_SYMBOLIC, DT_RUNPATH, DT_FLAGS, DT_GNU_HASH, DT_VERSYM, DT_FLAGS_1, DT_VERDEF, DT_VERDEFNUM, DT_VERNEED, DT_VERNEEDNUM, DT_DEPAUDIT, DT_AUDIT, DT_AUXILIARY, DT_FILTER, DF_1_INTERPOSE, DF_1_NODEFLIB}
 use Rattle.byte_view.specs.declared.dynamic.Entry.{Entry}
 use Rattle.byte_view.specs.declared.flaws.Flaw.{Flaw}
+use Rattle.byte_view.specs.declared.flaws.TheConstants.{DYNAMIC_PLACE, MISSING_TAG, NO_DYNAMIC, NO_END, REPEATED, STRINGS_END, STRINGS_RANGE, STRING_PLACE, TAG_REFUSED, TWO_DYNAMIC}
 use Rattle.byte_view.specs.declared.segments.Segment.{Segment}
 
 -- 14, TwoDynamic: the second DYNAMIC
@@ -19,7 +20,7 @@ abbrev pub second_place : (Segment → Bool) → List Segment → Option ℕ
 second_place test segments = option_and_then (place_after test segments) (position_from test 0 segments)
 
 abbrev pub two_dynamic : List Segment → Option Flaw
-two_dynamic segments = flaw_at 14 (second_place is_dynamic segments)
+two_dynamic segments = flaw_at TWO_DYNAMIC (second_place is_dynamic segments)
 
 abbrev pub begins_at : ℕ → Option (ℕ × ℕ) → Bool
 begins_at place None = false
@@ -27,11 +28,11 @@ begins_at place (Some range) = range.0 == place
 
 -- 15, DynamicPlace: no room for an entry, or memory does not have it from the file, at the header's offset
 abbrev pub misplaced : List Segment → Segment → Option Flaw
-misplaced segments s = flaw_where (nat_lt s.filesz 16 || not (begins_at s.offset (range_in segments s.vaddr s.filesz))) (flaw 15 0 0)
+misplaced segments s = flaw_where (nat_lt s.filesz 16 || not (begins_at s.offset (range_in segments s.vaddr s.filesz))) (flaw DYNAMIC_PLACE 0 0)
 
 -- 16, NoEnd: no DT_NULL
 abbrev pub no_end : List Entry → Option Flaw
-no_end table = flaw_where (not (list_any is_end table)) (flaw 16 0 0)
+no_end table = flaw_where (not (list_any is_end table)) (flaw NO_END 0 0)
 
 -- 17, TagRefused: what would change how libraries are found or bound, in ways that are not modelled
 abbrev pub has_bit : ℕ → ℕ → Bool
@@ -58,14 +59,14 @@ is_repeated before e = is_single e.tag && has_tag e.tag before
 unfoldable pub entry_flaw : List Entry → List Entry → Option Flaw
 entry_flaw before [] = None
 entry_flaw before (e ∷ rest) =
-    first_some (flaw_where (is_refused e) (flaw 17 e.tag 0) ∷ flaw_where (is_repeated before e) (flaw 18 e.tag 0) ∷ entry_flaw (before ++ e ∷ []) rest ∷ [])
+    first_some (flaw_where (is_refused e) (flaw TAG_REFUSED e.tag 0) ∷ flaw_where (is_repeated before e) (flaw REPEATED e.tag 0) ∷ entry_flaw (before ++ e ∷ []) rest ∷ [])
 
 -- 19, MissingTag: a tag that each table has, or that another tag asks for
 abbrev pub missing : ℕ → List Entry → Option Flaw
-missing tag entries = flaw_where (not (has_tag tag entries)) (flaw 19 tag 0)
+missing tag entries = flaw_where (not (has_tag tag entries)) (flaw MISSING_TAG tag 0)
 
 abbrev pub missing_beside : ℕ → ℕ → List Entry → Option Flaw
-missing_beside tag wanted entries = flaw_where (has_tag tag entries && not (has_tag wanted entries)) (flaw 19 wanted 0)
+missing_beside tag wanted entries = flaw_where (has_tag tag entries && not (has_tag wanted entries)) (flaw MISSING_TAG wanted 0)
 
 unfoldable pub missing_flaw : List Entry → Option Flaw
 missing_flaw entries =
@@ -74,7 +75,7 @@ missing_flaw entries =
 -- 20, StringsRange: no string table, or memory does not have it from the file
 abbrev pub no_strings : List Segment → List Entry → Option Flaw
 no_strings segments entries =
-    flaw_where ((strings_size entries == 0) || not (is_some (range_in segments (strings_at entries) (strings_size entries)))) (flaw 20 0 0)
+    flaw_where ((strings_size entries == 0) || not (is_some (range_in segments (strings_at entries) (strings_size entries)))) (flaw STRINGS_RANGE 0 0)
 
 abbrev pub is_zero : Option ℕ → Bool
 is_zero None = false
@@ -83,7 +84,7 @@ is_zero (Some c) = c == 0
 -- 21, StringsEnd: the last byte of the string table is not zero
 abbrev pub unended_strings : List ℕ → List Segment → List Entry → Option Flaw
 unended_strings file segments entries =
-    flaw_where (not (is_zero (memory_in file segments (strings_at entries + (strings_size entries - 1))))) (flaw 21 0 0)
+    flaw_where (not (is_zero (memory_in file segments (strings_at entries + (strings_size entries - 1))))) (flaw STRINGS_END 0 0)
 
 -- 22, StringPlace: a name that lies past the string table, the first such entry
 abbrev pub is_name : Entry → Bool
@@ -93,7 +94,7 @@ abbrev pub bad_place : List Entry → Option ℕ
 bad_place entries = option_map (λ e. e.value) (find (λ e. is_name e && nat_le (strings_size entries) e.value) entries)
 
 abbrev pub bad_name : List Entry → Option Flaw
-bad_name entries = flaw_at 22 (bad_place entries)
+bad_name entries = flaw_at STRING_PLACE (bad_place entries)
 
 unfoldable pub place_flaw : List Segment → Segment → Option Flaw
 place_flaw segments s = first_some (two_dynamic segments ∷ misplaced segments s ∷ [])
@@ -110,7 +111,7 @@ table_flaw file segments table =
 
 -- 13, NoDynamic: no DYNAMIC
 abbrev pub segment_flaw_by : List Segment → Option Segment → Option Flaw
-segment_flaw_by segments None = Some (flaw 13 0 0)
+segment_flaw_by segments None = Some (flaw NO_DYNAMIC 0 0)
 segment_flaw_by segments (Some s) = place_flaw segments s
 
 -- the first flaw of the dynamic table of a file whose headers have none

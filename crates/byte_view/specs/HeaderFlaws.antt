@@ -6,52 +6,53 @@ use Rattle.byte_view.specs.Checks.{flaw, flaw_where, flaw_at, first_some}
 use Rattle.byte_view.specs.Headers.{ei_class, ei_data, ei_version, e_type, e_machine, e_version, e_phoff, e_ehsize, e_phentsize, e_phnum, headers, is_load, is_dynamic, is_interp, file_end, memory_end}
 use Rattle.byte_view.specs.declared.constants.TheConstants.{ELFCLASS64, ELFDATA2LSB, EV_CURRENT, EHDR_SIZE, PHDR_SIZE, ET_EXEC, ET_DYN, EM_X86_64, PN_XNUM, LONGEST_FILE, HIGHEST_END, LEAST_ALIGN}
 use Rattle.byte_view.specs.declared.flaws.Flaw.{Flaw}
+use Rattle.byte_view.specs.declared.flaws.TheConstants.{CLASS, HEADER_SIZE, IDENT_VERSION, KIND, MACHINE, NOT_ELF, NO_LOAD, ORDER, SEGMENT_ORDER, SEGMENT_OVERLAP, SEGMENT_RANGE, SHORT, TOO_BIG}
 use Rattle.byte_view.specs.declared.segments.Segment.{Segment}
 
 -- 34, TooBig: longer than 512 MiB
 abbrev pub too_big : List ℕ → Option Flaw
-too_big file = flaw_where (nat_lt LONGEST_FILE (length file)) (flaw 34 (length file) 0)
+too_big file = flaw_where (nat_lt LONGEST_FILE (length file)) (flaw TOO_BIG (length file) 0)
 
 -- 1, NotElf: the first four bytes are not 7F 45 4C 46
 abbrev pub not_elf : List ℕ → Option Flaw
-not_elf file = flaw_where (not (starts_with eqb file (127 ∷ 69 ∷ 76 ∷ 70 ∷ []))) (flaw 1 0 0)
+not_elf file = flaw_where (not (starts_with eqb file (127 ∷ 69 ∷ 76 ∷ 70 ∷ []))) (flaw NOT_ELF 0 0)
 
 -- 2, Short: the file ends within the ELF header
 abbrev pub short_header : List ℕ → Option Flaw
-short_header file = flaw_where (nat_lt (length file) 64) (flaw 2 64 (length file))
+short_header file = flaw_where (nat_lt (length file) 64) (flaw SHORT 64 (length file))
 
 -- 3, Class: not of 64-bit words
 abbrev pub wrong_class : List ℕ → Option Flaw
-wrong_class file = flaw_where (not (ei_class file == ELFCLASS64)) (flaw 3 (ei_class file) 0)
+wrong_class file = flaw_where (not (ei_class file == ELFCLASS64)) (flaw CLASS (ei_class file) 0)
 
 -- 4, Order: not the lowest byte first
 abbrev pub wrong_order : List ℕ → Option Flaw
-wrong_order file = flaw_where (not (ei_data file == ELFDATA2LSB)) (flaw 4 (ei_data file) 0)
+wrong_order file = flaw_where (not (ei_data file == ELFDATA2LSB)) (flaw ORDER (ei_data file) 0)
 
 -- 5, IdentVersion: a version other than 1, in e_ident or in e_version
 abbrev pub wrong_ident_version : List ℕ → Option Flaw
-wrong_ident_version file = flaw_where (not (ei_version file == EV_CURRENT)) (flaw 5 (ei_version file) 0)
+wrong_ident_version file = flaw_where (not (ei_version file == EV_CURRENT)) (flaw IDENT_VERSION (ei_version file) 0)
 
 abbrev pub wrong_version : List ℕ → Option Flaw
-wrong_version file = flaw_where (not (e_version file == EV_CURRENT)) (flaw 5 (e_version file) 0)
+wrong_version file = flaw_where (not (e_version file == EV_CURRENT)) (flaw IDENT_VERSION (e_version file) 0)
 
 -- 6, Machine: not x86-64
 abbrev pub wrong_machine : List ℕ → Option Flaw
-wrong_machine file = flaw_where (not (e_machine file == EM_X86_64)) (flaw 6 (e_machine file) 0)
+wrong_machine file = flaw_where (not (e_machine file == EM_X86_64)) (flaw MACHINE (e_machine file) 0)
 
 -- 7, Kind: neither a program nor a shared object
 abbrev pub wrong_kind : List ℕ → Option Flaw
-wrong_kind file = flaw_where (not ((e_type file == ET_EXEC) || (e_type file == ET_DYN))) (flaw 7 (e_type file) 0)
+wrong_kind file = flaw_where (not ((e_type file == ET_EXEC) || (e_type file == ET_DYN))) (flaw KIND (e_type file) 0)
 
 -- 8, HeaderSize: other sizes of the headers, or no number of program headers; the place of the field
 abbrev pub wrong_header_size : List ℕ → Option Flaw
-wrong_header_size file = flaw_where (not (e_ehsize file == EHDR_SIZE)) (flaw 8 52 0)
+wrong_header_size file = flaw_where (not (e_ehsize file == EHDR_SIZE)) (flaw HEADER_SIZE 52 0)
 
 abbrev pub wrong_entry_size : List ℕ → Option Flaw
-wrong_entry_size file = flaw_where (not (e_phentsize file == PHDR_SIZE)) (flaw 8 54 0)
+wrong_entry_size file = flaw_where (not (e_phentsize file == PHDR_SIZE)) (flaw HEADER_SIZE 54 0)
 
 abbrev pub wrong_number : List ℕ → Option Flaw
-wrong_number file = flaw_where ((e_phnum file == 0) || (e_phnum file == PN_XNUM)) (flaw 8 56 0)
+wrong_number file = flaw_where ((e_phnum file == 0) || (e_phnum file == PN_XNUM)) (flaw HEADER_SIZE 56 0)
 
 -- where the program headers end in the file
 abbrev pub headers_end : List ℕ → ℕ
@@ -59,7 +60,7 @@ headers_end file = e_phoff file + 56 * e_phnum file
 
 -- 2, Short: the file ends within the program headers
 abbrev pub short_headers : List ℕ → Option Flaw
-short_headers file = flaw_where (nat_lt (length file) (headers_end file)) (flaw 2 (min (headers_end file) (2 ^ 64 - 1)) (length file))
+short_headers file = flaw_where (nat_lt (length file) (headers_end file)) (flaw SHORT (min (headers_end file) (2 ^ 64 - 1)) (length file))
 
 -- the bytes of a LOAD, DYNAMIC or INTERP go past the end of the file
 abbrev pub is_cut : ℕ → Segment → Bool
@@ -78,11 +79,11 @@ abbrev pub has_bad_range : ℕ → Segment → Bool
 has_bad_range len s = is_cut len s || (is_load s && is_unmappable s)
 
 abbrev pub bad_range : ℕ → List Segment → Option Flaw
-bad_range len segments = flaw_at 10 (position_from (has_bad_range len) 0 segments)
+bad_range len segments = flaw_at SEGMENT_RANGE (position_from (has_bad_range len) 0 segments)
 
 -- 9, NoLoad: nothing is loaded
 abbrev pub no_load : List Segment → Option Flaw
-no_load segments = flaw_where (not (list_any is_load segments)) (flaw 9 0 0)
+no_load segments = flaw_where (not (list_any is_load segments)) (flaw NO_LOAD 0 0)
 
 -- the number of the first LOAD whose address is below the bound that the LOAD before it sets, counted from i; low is the last bound
 unfoldable pub first_below : (Segment → ℕ) → ℕ → ℕ → List Segment → Option ℕ
@@ -92,11 +93,11 @@ first_below bound i low (s ∷ rest) =
 
 -- 11, SegmentOrder: a LOAD begins below the beginning of the LOAD before it
 abbrev pub falling : List Segment → Option Flaw
-falling segments = flaw_at 11 (first_below (λ s. s.vaddr) 0 0 segments)
+falling segments = flaw_at SEGMENT_ORDER (first_below (λ s. s.vaddr) 0 0 segments)
 
 -- 12, SegmentOverlap: a LOAD begins below the end of the LOAD before it
 abbrev pub overlapping : List Segment → Option Flaw
-overlapping segments = flaw_at 12 (first_below memory_end 0 0 segments)
+overlapping segments = flaw_at SEGMENT_OVERLAP (first_below memory_end 0 0 segments)
 
 unfoldable pub ident_flaw : List ℕ → Option Flaw
 ident_flaw file = first_some (too_big file ∷ not_elf file ∷ short_header file ∷ wrong_class file ∷ wrong_order file ∷ wrong_ident_version file ∷ wrong_version file ∷ [])

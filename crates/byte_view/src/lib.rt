@@ -4,7 +4,7 @@
 
 pub mod constants;
 mod dynamic;
-mod flaws;
+pub mod flaws;
 mod numbers;
 mod segments;
 

@@ -16,6 +16,7 @@ use Rattle.byte_view.proofs.Found.{find_all, find_passes}
 use Rattle.byte_view.proofs.Loads.{none_first, sound_file}
 use Rattle.byte_view.proofs.Ranges.{IsRead, entry_read, range_read}
 use Rattle.dyn_table.specs.Table.{entry_in, table_in}
+use Rattle.byte_view.specs.declared.flaws.TheConstants.{DYNAMIC_PLACE}
 
 pub sound_read : (segments : List Segment) (file : List ℕ) → IsReadFrom segments file → AreSound (length file) segments
 sound_read segments file r = rw r.same (sound_file file r.unflawed)
@@ -46,7 +47,7 @@ placed_range segments s e =
     let placed : misplaced segments s ≡ None = (none_first (misplaced segments s) [] rest.1).0 in
     go (nat_lt s.filesz 16) refl (begins_at s.offset (range_in segments s.vaddr s.filesz)) refl placed
   where
-    go : (a : Bool) → nat_lt s.filesz 16 ≡ a → (b : Bool) → begins_at s.offset (range_in segments s.vaddr s.filesz) ≡ b → cond (a || not b) (Some (flaw 15 0 0)) None ≡ None → (16 ≤ s.filesz) × (begins_at s.offset (range_in segments s.vaddr s.filesz) ≡ true)
+    go : (a : Bool) → nat_lt s.filesz 16 ≡ a → (b : Bool) → begins_at s.offset (range_in segments s.vaddr s.filesz) ≡ b → cond (a || not b) (Some (flaw DYNAMIC_PLACE 0 0)) None ≡ None → (16 ≤ s.filesz) × (begins_at s.offset (range_in segments s.vaddr s.filesz) ≡ true)
     go true k b l e = absurd (cc)
     go false k true l e = (grind (arith, nat_tests), l)
     go false k false l e = absurd (cc)

@@ -13,6 +13,7 @@ ghost use Rattle.dyn_table.specs.Table.{entry_in, table_in};
 
 use crate::faults::{DynFault, flawed};
 use byte_view::constants::PT_DYNAMIC;
+use byte_view::flaws::{DYNAMIC_PLACE, NO_DYNAMIC, TWO_DYNAMIC};
 use byte_view::{Entry, u64_at};
 use elf_headers::{Elf, Segment};
 use std::alloc::{AllocError, Global};
@@ -65,13 +66,13 @@ fn dynamic_segment(elf: &Elf) -> Result<Segment, DynFault>
 {
     let segments = elf.segments();
     let Some(segment) = first_dynamic(segments) else {
-        return Err(flawed(13, 0));
+        return Err(flawed(NO_DYNAMIC, 0));
     };
     if let Some(i) = second_dynamic(segments) {
-        return Err(flawed(14, i as u64));
+        return Err(flawed(TWO_DYNAMIC, i as u64));
     }
     if segment.filesz < 16 || !is_placed(elf, &segment) {
-        return Err(flawed(15, 0));
+        return Err(flawed(DYNAMIC_PLACE, 0));
     }
     Ok(segment)
 }

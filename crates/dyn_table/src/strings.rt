@@ -13,6 +13,7 @@ use crate::faults::{DynFault, flawed};
 use crate::tags::value_of;
 use byte_view::Entry;
 use byte_view::constants::{DT_NEEDED, DT_RPATH, DT_RUNPATH, DT_SONAME, DT_STRSZ, DT_STRTAB};
+use byte_view::flaws::{STRING_PLACE, STRINGS_END, STRINGS_RANGE};
 use elf_headers::Elf;
 
 fn is_name(e: &Entry) -> bool
@@ -69,16 +70,16 @@ pub(crate) fn check_strings(
     let at = strings_at(entries);
     let size = strings_size(entries);
     if size == 0 {
-        return Err(flawed(20, 0));
+        return Err(flawed(STRINGS_RANGE, 0));
     }
     let Some(range) = elf.range(at, size) else {
-        return Err(flawed(20, 0));
+        return Err(flawed(STRINGS_RANGE, 0));
     };
     if !is_zero(elf.mem(bytes, at + (size - 1))) {
-        return Err(flawed(21, 0));
+        return Err(flawed(STRINGS_END, 0));
     }
     if let Some(place) = first_bad_place(entries) {
-        return Err(flawed(22, place));
+        return Err(flawed(STRING_PLACE, place));
     }
     Ok(range)
 }

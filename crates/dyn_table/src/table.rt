@@ -17,6 +17,7 @@ use crate::strings::{check_strings, text_at};
 use crate::tags::check_tags;
 use byte_view::Entry;
 use byte_view::constants::DT_NULL;
+use byte_view::flaws::NO_END;
 use elf_headers::Elf;
 use std::alloc::Global;
 use std::marker::Model;
@@ -109,7 +110,7 @@ fn check_table(elf: &Elf, bytes: &[u8], table: &[Entry]) -> Result<Parts, DynFau
     ensures strings { IfOk result (λ parts. range_in elf.now (strings_at (before_first is_end table.now)) (strings_size (before_first is_end table.now)) ≡ Some (parts.from, parts.to)) }
 {
     let Some(end) = first_end(table) else {
-        return Err(flawed(16, 0));
+        return Err(flawed(NO_END, 0));
     };
     let entries = &table[..end];
     check_tags(entries)?;

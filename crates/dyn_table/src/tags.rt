@@ -14,6 +14,7 @@ use byte_view::constants::{
     DT_RPATH, DT_RUNPATH, DT_SONAME, DT_STRSZ, DT_STRTAB, DT_SYMBOLIC, DT_SYMENT, DT_SYMTAB,
     DT_VERDEF, DT_VERDEFNUM, DT_VERNEED, DT_VERNEEDNUM, DT_VERSYM,
 };
+use byte_view::flaws::{MISSING_TAG, REPEATED, TAG_REFUSED};
 
 /// The value of the first entry with this tag.
 pub fn value_of(tag: u64, entries: &[Entry]) -> Option<u64>
@@ -75,10 +76,10 @@ fn check_entries(entries: &[Entry]) -> Result<(), DynFault>
 {
     for (i, e) in entries.iter().enumerate() {
         if is_refused(e) {
-            return Err(flawed(17, e.tag));
+            return Err(flawed(TAG_REFUSED, e.tag));
         }
         if is_single(e.tag) && has_tag(e.tag, &entries[..i]) {
-            return Err(flawed(18, e.tag));
+            return Err(flawed(REPEATED, e.tag));
         }
     }
     Ok(())
@@ -90,22 +91,22 @@ fn check_missing(entries: &[Entry]) -> Result<(), DynFault>
     ensures { TellsBy flaw_of result (missing_flaw entries.now) }
 {
     if !has_tag(DT_STRTAB, entries) {
-        return Err(flawed(19, DT_STRTAB));
+        return Err(flawed(MISSING_TAG, DT_STRTAB));
     }
     if !has_tag(DT_SYMTAB, entries) {
-        return Err(flawed(19, DT_SYMTAB));
+        return Err(flawed(MISSING_TAG, DT_SYMTAB));
     }
     if !has_tag(DT_STRSZ, entries) {
-        return Err(flawed(19, DT_STRSZ));
+        return Err(flawed(MISSING_TAG, DT_STRSZ));
     }
     if !has_tag(DT_SYMENT, entries) {
-        return Err(flawed(19, DT_SYMENT));
+        return Err(flawed(MISSING_TAG, DT_SYMENT));
     }
     if has_tag(DT_VERDEF, entries) && !has_tag(DT_VERDEFNUM, entries) {
-        return Err(flawed(19, DT_VERDEFNUM));
+        return Err(flawed(MISSING_TAG, DT_VERDEFNUM));
     }
     if has_tag(DT_VERNEED, entries) && !has_tag(DT_VERNEEDNUM, entries) {
-        return Err(flawed(19, DT_VERNEEDNUM));
+        return Err(flawed(MISSING_TAG, DT_VERNEEDNUM));
     }
     Ok(())
 }

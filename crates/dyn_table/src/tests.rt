@@ -4,6 +4,10 @@ ghost use Rattle.std.specs.Prelude.{◌+◌, ◌≤◌, length};
 
 use super::{Dyn, DynFault, Entry};
 use byte_view::constants::{DT_NEEDED, DT_SYMENT};
+use byte_view::flaws::{
+    DYNAMIC_PLACE, MISSING_TAG, NO_DYNAMIC, NO_END, REPEATED, STRING_PLACE, STRINGS_END,
+    STRINGS_RANGE, TAG_REFUSED, TWO_DYNAMIC,
+};
 use elf_headers::Elf;
 use std::alloc::Global;
 use std::test::Fail;
@@ -109,12 +113,12 @@ fn smallest_program(rt: HostRuntime) -> Result<(), Fail> {
 #[test]
 fn damaged_places(rt: HostRuntime) {
     let alloc = rt.alloc();
-    assert_eq!(rt; fault_with(alloc, 232, &[0]), flawed(13, 0));
-    assert_eq!(rt; fault_with(alloc, 120, &[2]), flawed(14, 3));
+    assert_eq!(rt; fault_with(alloc, 232, &[0]), flawed(NO_DYNAMIC, 0));
+    assert_eq!(rt; fault_with(alloc, 120, &[2]), flawed(TWO_DYNAMIC, 3));
     // The table's place in the file, and its size.
-    assert_eq!(rt; fault_with(alloc, 240, &[0x70]), flawed(15, 0));
-    assert_eq!(rt; fault_with(alloc, 264, &[15]), flawed(15, 0));
-    assert_eq!(rt; fault_with(alloc, 472, &[21]), flawed(16, 0));
+    assert_eq!(rt; fault_with(alloc, 240, &[0x70]), flawed(DYNAMIC_PLACE, 0));
+    assert_eq!(rt; fault_with(alloc, 264, &[15]), flawed(DYNAMIC_PLACE, 0));
+    assert_eq!(rt; fault_with(alloc, 472, &[21]), flawed(NO_END, 0));
 }
 
 #[test]
@@ -122,21 +126,21 @@ fn damaged_tags(rt: HostRuntime) {
     let alloc = rt.alloc();
     assert_eq!(rt;
         fault_with(alloc, 376, &[0xff, 0xff, 0xff, 0x7f]),
-        flawed(17, 0x7fff_ffff)
+        flawed(TAG_REFUSED, 0x7fff_ffff)
     );
     // Flags of DT_FLAGS_1 with NODEFLIB.
     assert_eq!(rt;
         fault_with(alloc, 376, &[0xfb, 0xff, 0xff, 0x6f, 0, 0, 0, 0, 0, 8]),
-        flawed(17, 0x6fff_fffb)
+        flawed(TAG_REFUSED, 0x6fff_fffb)
     );
-    assert_eq!(rt; fault_with(alloc, 456, &[5]), flawed(18, 5));
-    assert_eq!(rt; fault_with(alloc, 456, &[21]), flawed(19, 11));
+    assert_eq!(rt; fault_with(alloc, 456, &[5]), flawed(REPEATED, 5));
+    assert_eq!(rt; fault_with(alloc, 456, &[21]), flawed(MISSING_TAG, 11));
 }
 
 #[test]
 fn damaged_strings(rt: HostRuntime) {
     let alloc = rt.alloc();
-    assert_eq!(rt; fault_with(alloc, 448, &[0]), flawed(20, 0));
-    assert_eq!(rt; fault_with(alloc, 330, &[65]), flawed(21, 0));
-    assert_eq!(rt; fault_with(alloc, 384, &[11]), flawed(22, 11));
+    assert_eq!(rt; fault_with(alloc, 448, &[0]), flawed(STRINGS_RANGE, 0));
+    assert_eq!(rt; fault_with(alloc, 330, &[65]), flawed(STRINGS_END, 0));
+    assert_eq!(rt; fault_with(alloc, 384, &[11]), flawed(STRING_PLACE, 11));
 }

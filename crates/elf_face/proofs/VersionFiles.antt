@@ -11,6 +11,7 @@ use Rattle.byte_view.specs.Memory.{range_in}
 use Rattle.byte_view.specs.Numbers.{number_at}
 use Rattle.byte_view.specs.declared.constants.TheConstants.{VER_CURRENT}
 use Rattle.byte_view.specs.declared.flaws.Flaw.{Flaw}
+use Rattle.byte_view.specs.declared.flaws.TheConstants.{VERSION_RANGE}
 use Rattle.byte_view.proofs.Loads.{none_first}
 use Rattle.load_model.specs.VersionFlaws.{bad_next, bad_text, bad_verneed, bad_versym, symbols_version_flaw, verdefs_flaw, verneed_flaw, verneeds_flaw, vernauxs_flaw, version_flaw}
 use Rattle.load_model.specs.VersionTables.{file_place, file_words_of, memory_number, verneed_count, verneed_place, verneeds, vn_file, vn_next, vn_version}
@@ -49,7 +50,7 @@ file_word : (file : List ℕ) (at : ℕ) → header_flaw file ≡ None → bad_v
 unfolding file_place
 file_word file at unflawed good = go (range_in (headers file) at 16) refl good
   where
-    go : (o : Option (ℕ × ℕ)) → range_in (headers file) at 16 ≡ o → cond (not (is_some o) || not (vn_version file at == VER_CURRENT)) (Some (flaw 30 at 0)) None ≡ None → word_or_0 file ((unwrap_or o (0, 0)).0 + 4) ≡ vn_file file at
+    go : (o : Option (ℕ × ℕ)) → range_in (headers file) at 16 ≡ o → cond (not (is_some o) || not (vn_version file at == VER_CURRENT)) (Some (flaw VERSION_RANGE at 0)) None ≡ None → word_or_0 file ((unwrap_or o (0, 0)).0 + 4) ≡ vn_file file at
     go None r e = absurd (cc)
     go (Some range) r e = word_there file at range.0 range.1 unflawed r
 

@@ -11,6 +11,7 @@ use Rattle.byte_view.specs.declared.segments.Segment.{Segment}
 use Rattle.byte_view.proofs.Found.{find_all, find_passes}
 use Rattle.byte_view.proofs.Loads.{none_first}
 use Rattle.dyn_table.proofs.Placed.{sound_read}
+use Rattle.byte_view.specs.declared.flaws.TheConstants.{SHORT}
 
 -- the bytes of the first INTERP
 pub interp_within : (segments : List Segment) (file : List ℕ) (s : Segment) → IsReadFrom segments file → find is_interp segments ≡ Some s → file_end s ≤ length file
@@ -29,6 +30,6 @@ header_whole file e =
     let short : short_header file ≡ None = (none_first (short_header file) (wrong_class file ∷ wrong_order file ∷ wrong_ident_version file ∷ wrong_version file ∷ []) elf.1).0 in
     go (nat_lt (length file) 64) refl short
   where
-    go : (b : Bool) → nat_lt (length file) 64 ≡ b → flaw_where b (flaw 2 64 (length file)) ≡ None → 64 ≤ length file
+    go : (b : Bool) → nat_lt (length file) 64 ≡ b → flaw_where b (flaw SHORT 64 (length file)) ≡ None → 64 ≤ length file
     go true t e = absurd (cc)
     go false t e = grind (arith, nat_tests)

@@ -4,6 +4,7 @@ ghost use Rattle.std.specs.Prelude.{◌≡◌};
 ghost use Rattle.elf_face.specs.Faults.{flaw_of};
 
 use byte_view::Flaw;
+use byte_view::flaws::BAD_NAME;
 
 /// Why a loader sees nothing of a file.
 #[derive(Clone, Copy, Debug, PartialEq, Eq)]
@@ -29,7 +30,7 @@ pub(crate) fn bad_name(at: u64) -> FaceFault
     ensures { result ≡ FaceFault.Flawed (record { code = 33; a = at; b = 0 }) }
 {
     FaceFault::Flawed(Flaw {
-        code: 33,
+        code: BAD_NAME,
         a: at,
         b: 0,
     })

@@ -2,6 +2,7 @@
 
 use super::{Face, Flaw, flaw_of, read_face};
 use byte_view::constants::{STB_GLOBAL, STT_FUNC, STT_OBJECT, STV_DEFAULT};
+use byte_view::flaws::{BAD_NAME, CLASS};
 use load_model::{Name, Sym, Ver};
 use std::alloc::{AllocError, Global};
 
@@ -124,7 +125,7 @@ fn flaw_with(
 
 fn bad_name(at: u64) -> Option<Flaw> {
     Some(Flaw {
-        code: 33,
+        code: BAD_NAME,
         a: at,
         b: 0,
     })
@@ -273,7 +274,7 @@ fn names_that_are_no_text(rt: HostRuntime) -> Result<(), AllocError> {
     );
     // A flaw of the headers comes before.
     let class = Some(Flaw {
-        code: 3,
+        code: CLASS,
         a: 1,
         b: 0,
     });

@@ -11,6 +11,9 @@ use byte_view::constants::{
     EHDR_SIZE, EI_CLASS, EI_DATA, EI_VERSION, ELFCLASS64, ELFDATA2LSB, EM_X86_64, ET_DYN, ET_EXEC,
     EV_CURRENT, LONGEST_FILE, PHDR_SIZE, PN_XNUM,
 };
+use byte_view::flaws::{
+    CLASS, HEADER_SIZE, IDENT_VERSION, KIND, MACHINE, NOT_ELF, ORDER, SHORT, TOO_BIG,
+};
 
 /// Is this an ELF file of 64-bit words, the lowest byte first, of a length that is read?
 #[tactic(auto, unfolding(byte_view::specs::HeaderFlaws::ident_flaw))]
@@ -21,30 +24,30 @@ pub(crate) fn check_ident(bytes: &[u8]) -> Result<(), ElfFault>
 {
     let len = bytes.len() as u64;
     if len > LONGEST_FILE {
-        return Err(flawed(34, len));
+        return Err(flawed(TOO_BIG, len));
     }
     if !bytes.starts_with(b"\x7fELF") {
-        return Err(flawed(1, 0));
+        return Err(flawed(NOT_ELF, 0));
     }
     if len < 64 {
         return Err(ElfFault::Flawed {
-            code: 2,
+            code: SHORT,
             a: 64,
             b: len,
         });
     }
     if bytes[EI_CLASS] != ELFCLASS64 {
-        return Err(flawed(3, u64::from(bytes[EI_CLASS])));
+        return Err(flawed(CLASS, u64::from(bytes[EI_CLASS])));
     }
     if bytes[EI_DATA] != ELFDATA2LSB {
-        return Err(flawed(4, u64::from(bytes[EI_DATA])));
+        return Err(flawed(ORDER, u64::from(bytes[EI_DATA])));
     }
     if bytes[EI_VERSION] != EV_CURRENT {
-        return Err(flawed(5, u64::from(bytes[EI_VERSION])));
+        return Err(flawed(IDENT_VERSION, u64::from(bytes[EI_VERSION])));
     }
     let version = word(bytes, 20);
     if version != u32::from(EV_CURRENT) {
-        return Err(flawed(5, u64::from(version)));
+        return Err(flawed(IDENT_VERSION, u64::from(version)));
     }
     Ok(())
 }
@@ -58,27 +61,27 @@ pub(crate) fn check_words(bytes: &[u8]) -> Result<(), ElfFault>
 {
     let machine = half(bytes, 18);
     if machine != EM_X86_64 {
-        return Err(flawed(6, u64::from(machine)));
+        return Err(flawed(MACHINE, u64::from(machine)));
     }
     let kind = half(bytes, 16);
     if kind != ET_EXEC && kind != ET_DYN {
-        return Err(flawed(7, u64::from(kind)));
+        return Err(flawed(KIND, u64::from(kind)));
     }
     if half(bytes, 52) != EHDR_SIZE {
-        return Err(flawed(8, 52));
+        return Err(flawed(HEADER_SIZE, 52));
     }
     if half(bytes, 54) != PHDR_SIZE {
-        return Err(flawed(8, 54));
+        return Err(flawed(HEADER_SIZE, 54));
     }
     let count = half(bytes, 56);
     if count == 0 || count == PN_XNUM {
-        return Err(flawed(8, 56));
+        return Err(flawed(HEADER_SIZE, 56));
     }
     let need = xword(bytes, 32).saturating_add(56 * u64::from(count));
     let have = bytes.len() as u64;
     if need > have {
         return Err(ElfFault::Flawed {
-            code: 2,
+            code: SHORT,
             a: need,
             b: have,
         });

@@ -12,6 +12,7 @@ use crate::faults::{ElfFault, flawed};
 use crate::fields::{half, segment_at, xword};
 use byte_view::Segment;
 use byte_view::constants::{HIGHEST_END, LEAST_ALIGN, PT_DYNAMIC, PT_INTERP, PT_LOAD};
+use byte_view::flaws::{NO_LOAD, SEGMENT_ORDER, SEGMENT_OVERLAP, SEGMENT_RANGE};
 use std::alloc::{AllocError, Global};
 
 /// The program headers, in order.
@@ -120,16 +121,16 @@ pub(crate) fn check_segments(len: u64, segments: &[Segment]) -> Result<(), ElfFa
     ensures { TellsBy flaw_of result (segment_flaw len segments.now) }
 {
     if let Some(i) = first_bad_range(len, segments) {
-        return Err(flawed(10, i as u64));
+        return Err(flawed(SEGMENT_RANGE, i as u64));
     }
     if !has_load(segments) {
-        return Err(flawed(9, 0));
+        return Err(flawed(NO_LOAD, 0));
     }
     if let Some(i) = first_below(segments, Bound::Beginning) {
-        return Err(flawed(11, i as u64));
+        return Err(flawed(SEGMENT_ORDER, i as u64));
     }
     if let Some(i) = first_below(segments, Bound::End) {
-        return Err(flawed(12, i as u64));
+        return Err(flawed(SEGMENT_OVERLAP, i as u64));
     }
     Ok(())
 }

@@ -5,6 +5,10 @@ ghost use Rattle.std.specs.Prelude.{◌+◌, ◌≤◌, length};
 use super::{Elf, ElfFault, Segment};
 use crate::segments::check_segments;
 use byte_view::constants::{PT_INTERP, PT_LOAD};
+use byte_view::flaws::{
+    CLASS, HEADER_SIZE, IDENT_VERSION, MACHINE, NO_LOAD, NOT_ELF, SEGMENT_ORDER, SEGMENT_OVERLAP,
+    SEGMENT_RANGE, SHORT,
+};
 use std::alloc::Global;
 use std::test::Fail;
 
@@ -118,30 +122,39 @@ fn zeros_past_the_file(rt: HostRuntime) -> Result<(), Fail> {
 #[test]
 fn cut_files(rt: HostRuntime) {
     let alloc = rt.alloc();
-    assert_eq!(rt; fault_of_first(alloc, 0), flawed(1, 0, 0));
-    assert_eq!(rt; fault_of_first(alloc, 63), flawed(2, 64, 63));
-    assert_eq!(rt; fault_of_first(alloc, 287), flawed(2, 288, 287));
-    assert_eq!(rt; fault_of_first(alloc, 487), flawed(10, 2, 0));
+    assert_eq!(rt; fault_of_first(alloc, 0), flawed(NOT_ELF, 0, 0));
+    assert_eq!(rt; fault_of_first(alloc, 63), flawed(SHORT, 64, 63));
+    assert_eq!(rt; fault_of_first(alloc, 287), flawed(SHORT, 288, 287));
+    assert_eq!(rt; fault_of_first(alloc, 487), flawed(SEGMENT_RANGE, 2, 0));
 }
 
 #[test]
 fn damaged_headers(rt: HostRuntime) {
     let alloc = rt.alloc();
-    assert_eq!(rt; fault_with(alloc, 4, &[1]), flawed(3, 1, 0));
-    assert_eq!(rt; fault_with(alloc, 6, &[2]), flawed(5, 2, 0));
-    assert_eq!(rt; fault_with(alloc, 18, &[40]), flawed(6, 40, 0));
-    assert_eq!(rt; fault_with(alloc, 56, &[255, 255]), flawed(8, 56, 0));
-    assert_eq!(rt; fault_with(alloc, 32, &[255; 8]), flawed(2, u64::MAX, 488));
+    assert_eq!(rt; fault_with(alloc, 4, &[1]), flawed(CLASS, 1, 0));
+    assert_eq!(rt; fault_with(alloc, 6, &[2]), flawed(IDENT_VERSION, 2, 0));
+    assert_eq!(rt; fault_with(alloc, 18, &[40]), flawed(MACHINE, 40, 0));
+    assert_eq!(rt;
+        fault_with(alloc, 56, &[255, 255]),
+        flawed(HEADER_SIZE, 56, 0)
+    );
+    assert_eq!(rt;
+        fault_with(alloc, 32, &[255; 8]),
+        flawed(SHORT, u64::MAX, 488)
+    );
 }
 
 #[test]
 fn damaged_segments(rt: HostRuntime) {
     let alloc = rt.alloc();
     // The loaded segment's address, its sizes, its alignment, and its kind.
-    assert_eq!(rt; fault_with(alloc, 192, &[1]), flawed(10, 2, 0));
-    assert_eq!(rt; fault_with(alloc, 216, &[0, 0]), flawed(10, 2, 0));
-    assert_eq!(rt; fault_with(alloc, 225, &[8]), flawed(10, 2, 0));
-    assert_eq!(rt; fault_with(alloc, 176, &[0]), flawed(9, 0, 0));
+    assert_eq!(rt; fault_with(alloc, 192, &[1]), flawed(SEGMENT_RANGE, 2, 0));
+    assert_eq!(rt;
+        fault_with(alloc, 216, &[0, 0]),
+        flawed(SEGMENT_RANGE, 2, 0)
+    );
+    assert_eq!(rt; fault_with(alloc, 225, &[8]), flawed(SEGMENT_RANGE, 2, 0));
+    assert_eq!(rt; fault_with(alloc, 176, &[0]), flawed(NO_LOAD, 0, 0));
 }
 
 #[test]
@@ -162,10 +175,16 @@ fn segments_out_of_order(rt: HostRuntime) {
         ..low
     };
     assert_eq!(rt; check_segments(0, &[low, above]), Ok(()));
-    assert_eq!(rt; check_segments(0, &[high, low]).err(), flawed(11, 1, 0));
-    assert_eq!(rt; check_segments(0, &[low, high]).err(), flawed(12, 1, 0));
+    assert_eq!(rt;
+        check_segments(0, &[high, low]).err(),
+        flawed(SEGMENT_ORDER, 1, 0)
+    );
+    assert_eq!(rt;
+        check_segments(0, &[low, high]).err(),
+        flawed(SEGMENT_OVERLAP, 1, 0)
+    );
     assert_eq!(rt;
         check_segments(0, &[low, high, low]).err(),
-        flawed(11, 2, 0)
+        flawed(SEGMENT_ORDER, 2, 0)
     );
 }

@@ -11,6 +11,7 @@ use Rattle.byte_view.specs.Headers.{e_machine, headers, is_interp}
 use Rattle.byte_view.specs.declared.constants.TheConstants.{DF_SYMBOLIC, DT_FLAGS, DT_NEEDED, DT_RPATH, DT_RUNPATH, DT_SONAME, DT_SYMBOLIC}
 use Rattle.byte_view.specs.declared.dynamic.Entry.{Entry}
 use Rattle.byte_view.specs.declared.flaws.Flaw.{Flaw}
+use Rattle.byte_view.specs.declared.flaws.TheConstants.{BAD_NAME}
 use Rattle.byte_view.specs.declared.segments.Segment.{Segment}
 use Rattle.load_model.specs.SymbolFlaws.{symbol_count, symbol_flaw, symbols_of}
 use Rattle.load_model.specs.SymbolWords.{binding_of, has_value, is_defined, type_of, visibility_of}
@@ -96,16 +97,16 @@ abbrev pub bad_place : List ℕ → ℕ → List Entry → Option ℕ
 bad_place file tag entries = option_map (λ e. e.value) (find (λ e. (e.tag == tag) && is_no_text file e.value) entries)
 
 abbrev pub bad_text_of : List ℕ → ℕ → Option Flaw
-bad_text_of file tag = flaw_at 33 (bad_place file tag (dynamic_entries file))
+bad_text_of file tag = flaw_at BAD_NAME (bad_place file tag (dynamic_entries file))
 
 -- the first of the files that versions are needed of
 abbrev pub bad_version_file : List ℕ → Option Flaw
-bad_version_file file = flaw_at 33 (find (is_no_text file) (map (vn_file file) (verneeds file)))
+bad_version_file file = flaw_at BAD_NAME (find (is_no_text file) (map (vn_file file) (verneeds file)))
 
 -- or the interpreter's path, by its place in the file
 abbrev pub bad_path_in : List ℕ → Option Segment → Option Flaw
 bad_path_in file None = None
-bad_path_in file (Some s) = flaw_where (not (is_utf8 (path_in file s))) (flaw 33 s.offset 0)
+bad_path_in file (Some s) = flaw_where (not (is_utf8 (path_in file s))) (flaw BAD_NAME s.offset 0)
 
 abbrev pub bad_interp : List ℕ → Option Flaw
 bad_interp file = bad_path_in file (find is_interp (headers file))

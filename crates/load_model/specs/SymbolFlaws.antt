@@ -9,6 +9,7 @@ use Rattle.byte_view.specs.Memory.{range_in}
 use Rattle.byte_view.specs.declared.constants.TheConstants.{DT_HASH, DT_GNU_HASH, SYM_SIZE}
 use Rattle.byte_view.specs.declared.dynamic.Entry.{Entry}
 use Rattle.byte_view.specs.declared.flaws.Flaw.{Flaw}
+use Rattle.byte_view.specs.declared.flaws.TheConstants.{COUNT_DIFFERS, ENTRY_SIZE, HASH_BROKEN, HASH_RANGE, NO_SYMBOL_COUNT, SYMBOL_NAME, SYMBOL_RANGE}
 use Rattle.byte_view.specs.declared.segments.Segment.{Segment}
 use Rattle.load_model.specs.GnuTable.{GnuTable, gnu_buckets, gnu_lists, gnu_place, gnu_reach, gnu_table, has_end, is_gnu_sound}
 use Rattle.load_model.specs.Hashes.{gnu_hash, sysv_hash}
@@ -20,7 +21,7 @@ use Rattle.load_model.specs.declared.symbols.RawSym.{RawSym}
 
 -- 23, EntrySize: symbols of another size
 abbrev pub wrong_symbol_size : List Entry → Option Flaw
-wrong_symbol_size entries = flaw_where (not (symbol_size entries == SYM_SIZE)) (flaw 23 (symbol_size entries) 0)
+wrong_symbol_size entries = flaw_where (not (symbol_size entries == SYM_SIZE)) (flaw ENTRY_SIZE (symbol_size entries) 0)
 
 -- 24, HashRange: a hash table that is not backed, or breaks a rule of its kind
 abbrev pub is_sysv_whole : List ℕ → List Segment → ℕ → Bool
@@ -29,7 +30,7 @@ is_sysv_whole file segments addr =
 
 abbrev pub bad_sysv : List ℕ → List Segment → Option ℕ → Option Flaw
 bad_sysv file segments None = None
-bad_sysv file segments (Some addr) = flaw_where (not (is_sysv_whole file segments addr)) (flaw 24 DT_HASH 0)
+bad_sysv file segments (Some addr) = flaw_where (not (is_sysv_whole file segments addr)) (flaw HASH_RANGE DT_HASH 0)
 
 abbrev pub is_gnu_whole : List ℕ → List Segment → ℕ → Bool
 is_gnu_whole file segments addr =
@@ -39,7 +40,7 @@ is_gnu_whole file segments addr =
 
 abbrev pub bad_gnu : List ℕ → List Segment → Option ℕ → Option Flaw
 bad_gnu file segments None = None
-bad_gnu file segments (Some addr) = flaw_where (not (is_gnu_whole file segments addr)) (flaw 24 DT_GNU_HASH 0)
+bad_gnu file segments (Some addr) = flaw_where (not (is_gnu_whole file segments addr)) (flaw HASH_RANGE DT_GNU_HASH 0)
 
 unfoldable pub hash_flaw : List ℕ → List Segment → List Entry → Option Flaw
 hash_flaw file segments entries =
@@ -47,18 +48,18 @@ hash_flaw file segments entries =
 
 -- 25, NoSymbolCount: nothing says how many symbols there are
 abbrev pub no_count : Option ℕ → Option Flaw
-no_count count = flaw_where (not (is_some count)) (flaw 25 0 0)
+no_count count = flaw_where (not (is_some count)) (flaw NO_SYMBOL_COUNT 0 0)
 
 -- 26, CountDiffers: the section and the hash table say other numbers
 abbrev pub differing_counts : Option ℕ → Option ℕ → Option Flaw
 differing_counts None hash = None
 differing_counts (Some section) None = None
-differing_counts (Some section) (Some hash) = flaw_where (not (section == hash)) (flaw 26 section hash)
+differing_counts (Some section) (Some hash) = flaw_where (not (section == hash)) (flaw COUNT_DIFFERS section hash)
 
 -- or the GNU hash table reaches past the symbols
 abbrev pub reach_past : ℕ → Option ℕ → Option Flaw
 reach_past count None = None
-reach_past count (Some reach) = flaw_where (nat_lt count reach) (flaw 26 count reach)
+reach_past count (Some reach) = flaw_where (nat_lt count reach) (flaw COUNT_DIFFERS count reach)
 
 unfoldable pub count_flaw : List ℕ → List Segment → List Entry → Option Flaw
 count_flaw file segments entries =
@@ -66,11 +67,11 @@ count_flaw file segments entries =
 
 -- 27, SymbolRange: memory does not have the symbols from the file
 abbrev pub unbacked_symbols : List Segment → ℕ → ℕ → Option Flaw
-unbacked_symbols segments addr count = flaw_where (not (is_some (range_in segments addr (24 * count)))) (flaw 27 0 0)
+unbacked_symbols segments addr count = flaw_where (not (is_some (range_in segments addr (24 * count)))) (flaw SYMBOL_RANGE 0 0)
 
 -- 28, SymbolName: a name that lies past the string table, the first such symbol
 abbrev pub bad_symbol_name : ℕ → List RawSym → Option Flaw
-bad_symbol_name size symbols = flaw_at 28 (position_from (λ s. nat_le size s.name) 0 symbols)
+bad_symbol_name size symbols = flaw_at SYMBOL_NAME (position_from (λ s. nat_le size s.name) 0 symbols)
 
 -- a symbol that other objects may bind to by name; the symbol of index 0 is none
 abbrev pub is_offerable : ℕ → RawSym → Bool
@@ -104,7 +105,7 @@ first_lost sysv gnu strings symbols =
     find (λ i. is_lost sysv gnu strings i (slice_get symbols i)) (range_with_len 0 (length symbols))
 
 abbrev pub broken_hash : Option SysvTable → Option GnuTable → List ℕ → List RawSym → Option Flaw
-broken_hash sysv gnu strings symbols = flaw_at 29 (first_lost sysv gnu strings symbols)
+broken_hash sysv gnu strings symbols = flaw_at HASH_BROKEN (first_lost sysv gnu strings symbols)
 
 unfoldable pub list_flaw : List ℕ → List Segment → List Entry → List RawSym → Option Flaw
 list_flaw file segments entries symbols =

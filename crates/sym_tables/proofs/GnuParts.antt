@@ -20,6 +20,7 @@ use Rattle.sym_tables.specs.Runs.{AreStarts, IsUsable}
 use Rattle.sym_tables.specs.declared.gnu.Front.{Front}
 use Rattle.sym_tables.specs.declared.gnu.Reach.{Reach}
 use Rattle.sym_tables.proofs.Backing.{none_longer, range_there, words_there}
+use Rattle.byte_view.specs.declared.flaws.TheConstants.{HASH_RANGE}
 
 both : (a b : Bool) → (a && b) ≡ true → (a ≡ true) × (b ≡ true)
 both true true e = (refl, refl)
@@ -71,7 +72,7 @@ table_there file segments addr from to f r words read front reach e made =
     rw (front.offset, front.shift, front.bloom, front.buckets, mem) refl
 
 -- what is wrong with a table
-whole_without : (file : List ℕ) (segments : List Segment) (addr : ℕ) → is_gnu_whole file segments addr ≡ false → bad_gnu file segments (Some addr) ≡ Some (flaw 24 DT_GNU_HASH 0)
+whole_without : (file : List ℕ) (segments : List Segment) (addr : ℕ) → is_gnu_whole file segments addr ≡ false → bad_gnu file segments (Some addr) ≡ Some (flaw HASH_RANGE DT_GNU_HASH 0)
 whole_without file segments addr e = rw e refl
 
 three_false : (a b c : Bool) → (a && b) ≡ false → (a && (b && c)) ≡ false
@@ -84,19 +85,19 @@ last_false true true c e = e
 last_false true false c e = refl
 last_false false b c e = refl
 
-pub gnu_cut : (file : List ℕ) (segments : List Segment) (addr : ℕ) → range_in segments addr (chains_from file segments addr) ≡ None → bad_gnu file segments (Some addr) ≡ Some (flaw 24 DT_GNU_HASH 0)
+pub gnu_cut : (file : List ℕ) (segments : List Segment) (addr : ℕ) → range_in segments addr (chains_from file segments addr) ≡ None → bad_gnu file segments (Some addr) ≡ Some (flaw HASH_RANGE DT_GNU_HASH 0)
 unfolding gnu_place
 gnu_cut file segments addr e =
     let none : range_in segments addr (gnu_size file segments addr) ≡ None = none_longer segments addr (chains_from file segments addr) (gnu_size file segments addr) (omega arith) (omega arith) e in
     let whole : is_gnu_whole file segments addr ≡ false = rw none refl in
     whole_without file segments addr whole
 
-pub gnu_unsound : (file : List ℕ) (segments : List Segment) (addr : ℕ) (f : Front) → IsFrontOf f file segments addr → is_gnu_sound (front_table f []) ≡ false → bad_gnu file segments (Some addr) ≡ Some (flaw 24 DT_GNU_HASH 0)
+pub gnu_unsound : (file : List ℕ) (segments : List Segment) (addr : ℕ) (f : Front) → IsFrontOf f file segments addr → is_gnu_sound (front_table f []) ≡ false → bad_gnu file segments (Some addr) ≡ Some (flaw HASH_RANGE DT_GNU_HASH 0)
 gnu_unsound file segments addr f front e =
     let sound : is_gnu_sound (gnu_table file segments addr) ≡ false = sym (sound_is file segments addr f front) ∙ e in
     whole_without file segments addr (last_false (is_some (gnu_place file segments addr)) (has_end (gnu_buckets file segments addr) (gnu_reach file segments addr)) (is_gnu_sound (gnu_table file segments addr)) sound)
 
-pub gnu_unended : (file : List ℕ) (segments : List Segment) (addr : ℕ) → HasNoReach file segments addr → bad_gnu file segments (Some addr) ≡ Some (flaw 24 DT_GNU_HASH 0)
+pub gnu_unended : (file : List ℕ) (segments : List Segment) (addr : ℕ) → HasNoReach file segments addr → bad_gnu file segments (Some addr) ≡ Some (flaw HASH_RANGE DT_GNU_HASH 0)
 gnu_unended file segments addr e =
     whole_without file segments addr (three_false (is_some (gnu_place file segments addr)) (has_end (gnu_buckets file segments addr) (gnu_reach file segments addr)) (is_gnu_sound (gnu_table file segments addr)) e)
 

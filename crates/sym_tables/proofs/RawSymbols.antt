@@ -21,6 +21,7 @@ use Rattle.load_model.specs.SymbolTable.{symbol_of, symbols_in}
 use Rattle.load_model.specs.declared.symbols.RawSym.{RawSym}
 use Rattle.sym_tables.proofs.Backing.{range_there, same_made}
 use Rattle.sym_tables.proofs.Reach.{too_long}
+use Rattle.byte_view.specs.declared.flaws.TheConstants.{SHORT, SYMBOL_RANGE, TOO_BIG}
 
 -- a number of one byte
 pub byte_is : (bytes : List ℕ) (at : ℕ) → number_at 1 bytes at ≡ slice_index bytes at
@@ -68,7 +69,7 @@ file_limit segments file r =
     let big = none_first (too_big file) (not_elf file ∷ short_header file ∷ wrong_class file ∷ wrong_order file ∷ wrong_ident_version file ∷ wrong_version file ∷ []) ident.0 in
     go (nat_lt LONGEST_FILE (length file)) refl big.0
   where
-    go : (b : Bool) → nat_lt LONGEST_FILE (length file) ≡ b → flaw_where b (flaw 34 (length file) 0) ≡ None → length file ≤ LONGEST_FILE
+    go : (b : Bool) → nat_lt LONGEST_FILE (length file) ≡ b → flaw_where b (flaw TOO_BIG (length file) 0) ≡ None → length file ≤ LONGEST_FILE
     go true h e = absurd (cc)
     go false h e = grind (arith, nat_tests)
 
@@ -81,7 +82,7 @@ header_there segments file r =
     let short = none_first (short_header file) (wrong_class file ∷ wrong_order file ∷ wrong_ident_version file ∷ wrong_version file ∷ []) elf.1 in
     go (nat_lt (length file) 64) refl short.0
   where
-    go : (b : Bool) → nat_lt (length file) 64 ≡ b → flaw_where b (flaw 2 64 (length file)) ≡ None → 64 ≤ length file
+    go : (b : Bool) → nat_lt (length file) 64 ≡ b → flaw_where b (flaw SHORT 64 (length file)) ≡ None → 64 ≤ length file
     go true h e = absurd (cc)
     go false h e = grind (arith, nat_tests)
 
@@ -93,7 +94,7 @@ symbols_few file segments addr count len from to symbols r l e made =
     omega arith
 
 -- symbols that are not backed
-pub unbacked : (segments : List Segment) (addr count len : ℕ) → len ≡ count * 24 → range_in segments addr len ≡ None → unbacked_symbols segments addr count ≡ Some (flaw 27 0 0)
+pub unbacked : (segments : List Segment) (addr count len : ℕ) → len ≡ count * 24 → range_in segments addr len ≡ None → unbacked_symbols segments addr count ≡ Some (flaw SYMBOL_RANGE 0 0)
 unbacked segments addr count len l e =
     let size : len ≡ 24 * count = omega arith in
     let none : range_in segments addr (24 * count) ≡ None = rw size at e in
@@ -105,7 +106,7 @@ backed segments addr count len range l e =
     let some : range_in segments addr (24 * count) ≡ Some range = rw size at e in
     rw some refl
 
-pub far_unbacked : (file : List ℕ) (segments : List Segment) (addr count : ℕ) → IsReadFrom segments file → 2 ^ 64 ≤ count * 24 → unbacked_symbols segments addr count ≡ Some (flaw 27 0 0)
+pub far_unbacked : (file : List ℕ) (segments : List Segment) (addr count : ℕ) → IsReadFrom segments file → 2 ^ 64 ≤ count * 24 → unbacked_symbols segments addr count ≡ Some (flaw SYMBOL_RANGE 0 0)
 far_unbacked file segments addr count r h =
     let limit : length file ≤ LONGEST_FILE = file_limit segments file r in
     let none : is_some (range_in segments addr (24 * count)) ≡ false = too_long segments file addr (24 * count) r (omega arith) in

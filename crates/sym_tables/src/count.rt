@@ -12,6 +12,7 @@ ghost use Rattle.sym_tables.specs.Faults.{flaw_of};
 use crate::faults::{SymFault, flawed};
 use crate::tags::symbols_at;
 use byte_view::constants::{SHDR_SIZE, SHT_DYNSYM, SYM_SIZE};
+use byte_view::flaws::{COUNT_DIFFERS, NO_SYMBOL_COUNT};
 use byte_view::{Entry, Flaw};
 use elf_headers::{half, word, xword};
 
@@ -73,9 +74,13 @@ fn first_count(section: Option<u64>, hash: Option<u64>, reach: Option<u64>) -> O
 
 /// The flaw of two counts that differ.
 fn differ(a: u64, b: u64) -> SymFault
-    ensures { result ≡ SymFault.Flawed (flaw 26 a b) }
+    ensures { result ≡ SymFault.Flawed (flaw COUNT_DIFFERS a b) }
 {
-    SymFault::Flawed(Flaw { code: 26, a, b })
+    SymFault::Flawed(Flaw {
+        code: COUNT_DIFFERS,
+        a,
+        b,
+    })
 }
 
 /// Do section and hash table say the same?
@@ -115,7 +120,7 @@ pub(crate) fn check_count(
     ensures count { IfOk result (λ count. first_count section hash reach ≡ Some count) }
 {
     let Some(count) = first_count(section, hash, reach) else {
-        return Err(flawed(25, 0));
+        return Err(flawed(NO_SYMBOL_COUNT, 0));
     };
     check_same(section, hash)?;
     check_reach(count, reach)?;

@@ -16,6 +16,7 @@ ghost use Rattle.sym_tables.specs.Places.{AreFrontParts, HasNoReach, IsFrontOf, 
 use crate::faults::{SymFault, flawed};
 use crate::words::{words, xwords};
 use byte_view::constants::DT_GNU_HASH;
+use byte_view::flaws::HASH_RANGE;
 use elf_headers::{Elf, word};
 use std::alloc::{AllocError, Global};
 use std::marker::Model;
@@ -385,13 +386,13 @@ impl FoundGnu {
             return Err(SymFault::NoMemory);
         };
         let Some(front) = front else {
-            return Err(flawed(24, DT_GNU_HASH));
+            return Err(flawed(HASH_RANGE, DT_GNU_HASH));
         };
         if !front.is_sound() {
-            return Err(flawed(24, DT_GNU_HASH));
+            return Err(flawed(HASH_RANGE, DT_GNU_HASH));
         }
         let Some(reach) = front.reach(elf, bytes, addr) else {
-            return Err(flawed(24, DT_GNU_HASH));
+            return Err(flawed(HASH_RANGE, DT_GNU_HASH));
         };
         let Ok(found) = FoundGnu::complete(alloc, elf, bytes, addr, front, reach) else {
             return Err(SymFault::NoMemory);

@@ -17,6 +17,7 @@ use crate::gnu::FoundGnu;
 use crate::hashes::{gnu_hash, sysv_hash};
 use crate::sysv::FoundSysv;
 use byte_view::constants::{SHN_ABS, SHN_UNDEF, STT_TLS};
+use byte_view::flaws::HASH_BROKEN;
 use dyn_table::Dyn;
 use load_model::{RawSym, is_bindable};
 use std::alloc::{AllocError, Global};
@@ -165,7 +166,7 @@ pub(crate) fn check_listed(
         return Err(SymFault::NoMemory);
     };
     match first_lost(&marks, gnu, table, bytes, symbols) {
-        Some(i) => Err(flawed(29, i as u64)),
+        Some(i) => Err(flawed(HASH_BROKEN, i as u64)),
         None => Ok(()),
     }
 }

@@ -10,6 +10,7 @@ ghost use Rattle.sym_tables.specs.Faults.{flaw_of};
 
 use crate::faults::{SymFault, flawed};
 use byte_view::constants::SYM_SIZE;
+use byte_view::flaws::{SYMBOL_NAME, SYMBOL_RANGE};
 use elf_headers::{Elf, half, word, xword};
 use load_model::RawSym;
 use std::alloc::{AllocError, Global};
@@ -59,10 +60,10 @@ pub(crate) fn read_symbols(
     ensures few { IfOk result (λ symbols. length symbols.items < 2 ^ 32) }
 {
     let Some(len) = count.checked_mul(SYM_SIZE) else {
-        return Err(flawed(27, 0));
+        return Err(flawed(SYMBOL_RANGE, 0));
     };
     let Some((from, _)) = elf.range(addr, len) else {
-        return Err(flawed(27, 0));
+        return Err(flawed(SYMBOL_RANGE, 0));
     };
     let Ok(symbols) = symbols_from(alloc, bytes, from as u64, count) else {
         return Err(SymFault::NoMemory);
@@ -81,7 +82,7 @@ pub(crate) fn check_names(size: u64, symbols: &[RawSym]) -> Result<(), SymFault>
     ensures { TellsBy flaw_of result (bad_symbol_name size symbols.now) }
 {
     match first_bad_name(size, symbols) {
-        Some(i) => Err(flawed(28, i as u64)),
+        Some(i) => Err(flawed(SYMBOL_NAME, i as u64)),
         None => Ok(()),
     }
 }

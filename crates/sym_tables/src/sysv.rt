@@ -15,6 +15,7 @@ ghost use Rattle.sym_tables.specs.Places.{IsSysvPlace, sysv_length, sysv_words};
 use crate::faults::{SymFault, flawed};
 use crate::words::words;
 use byte_view::constants::DT_HASH;
+use byte_view::flaws::HASH_RANGE;
 use elf_headers::{Elf, word};
 use std::alloc::{AllocError, Global};
 use std::marker::Model;
@@ -224,13 +225,13 @@ impl FoundSysv {
         ensures table { IfOk result (λ f. IsFoundSysv f bytes.now elf.now addr) }
     {
         let Some(place) = place(elf, bytes, addr) else {
-            return Err(flawed(24, DT_HASH));
+            return Err(flawed(HASH_RANGE, DT_HASH));
         };
         let Ok(table) = SysvTable::words_of(alloc, bytes, &place) else {
             return Err(SymFault::NoMemory);
         };
         if !table.is_sound() {
-            return Err(flawed(24, DT_HASH));
+            return Err(flawed(HASH_RANGE, DT_HASH));
         }
         Ok(FoundSysv {
             table,

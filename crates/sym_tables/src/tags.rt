@@ -9,6 +9,7 @@ ghost use Rattle.sym_tables.specs.Faults.{flaw_of};
 use crate::faults::{SymFault, flawed};
 use byte_view::Entry;
 use byte_view::constants::{DT_SYMENT, DT_SYMTAB, SYM_SIZE};
+use byte_view::flaws::ENTRY_SIZE;
 use dyn_table::value_of;
 
 /// The address of the symbols, or 0.
@@ -24,7 +25,7 @@ pub(crate) fn check_symbol_size(entries: &[Entry]) -> Result<(), SymFault>
 {
     let size = value_of(DT_SYMENT, entries).unwrap_or(0);
     if size != SYM_SIZE {
-        return Err(flawed(23, size));
+        return Err(flawed(ENTRY_SIZE, size));
     }
     Ok(())
 }

@@ -1,6 +1,9 @@
 //! Symbols that are read, and symbols that are not.
 
 use super::{Flaw, RawSym, SymFault, Syms, gnu_hash, sysv_hash};
+use byte_view::flaws::{
+    COUNT_DIFFERS, ENTRY_SIZE, HASH_BROKEN, HASH_RANGE, NO_SYMBOL_COUNT, SYMBOL_NAME, SYMBOL_RANGE,
+};
 use dyn_table::Dyn;
 use elf_headers::Elf;
 use std::alloc::Global;
@@ -162,15 +165,24 @@ fn library_of_one_function(rt: HostRuntime) -> Result<(), Fail> {
 fn damaged_program(rt: HostRuntime) {
     let alloc = rt.alloc();
     assert_eq!(rt; program_with(alloc, &[]), None);
-    assert_eq!(rt; program_with(alloc, &[(464, 16)]), flawed(23, 16, 0));
+    assert_eq!(rt;
+        program_with(alloc, &[(464, 16)]),
+        flawed(ENTRY_SIZE, 16, 0)
+    );
     // No bucket, and 2^32 - 1 symbols.
-    assert_eq!(rt; program_with(alloc, &[(360, 0)]), flawed(24, 4, 0));
+    assert_eq!(rt; program_with(alloc, &[(360, 0)]), flawed(HASH_RANGE, 4, 0));
     assert_eq!(rt;
         program_with(alloc, &[(364, 255), (365, 255), (366, 255), (367, 255)]),
-        flawed(24, 4, 0)
+        flawed(HASH_RANGE, 4, 0)
     );
-    assert_eq!(rt; program_with(alloc, &[(392, 21)]), flawed(25, 0, 0));
-    assert_eq!(rt; program_with(alloc, &[(437, 1)]), flawed(27, 0, 0));
+    assert_eq!(rt;
+        program_with(alloc, &[(392, 21)]),
+        flawed(NO_SYMBOL_COUNT, 0, 0)
+    );
+    assert_eq!(rt;
+        program_with(alloc, &[(437, 1)]),
+        flawed(SYMBOL_RANGE, 0, 0)
+    );
 }
 
 #[test]
@@ -180,15 +192,24 @@ fn counts(rt: HostRuntime) {
     let bare = [(304, 21), (280, 0), (216, 0)];
     assert_eq!(rt; library_with(alloc, &bare), None);
     let uncounted = [(304, 21), (280, 0), (216, 0), (58, 0)];
-    assert_eq!(rt; library_with(alloc, &uncounted), flawed(25, 0, 0));
+    assert_eq!(rt;
+        library_with(alloc, &uncounted),
+        flawed(NO_SYMBOL_COUNT, 0, 0)
+    );
     // A section of three symbols, and one of one.
-    assert_eq!(rt; library_with(alloc, &[(512, 72)]), flawed(26, 3, 2));
+    assert_eq!(rt;
+        library_with(alloc, &[(512, 72)]),
+        flawed(COUNT_DIFFERS, 3, 2)
+    );
     assert_eq!(rt;
         library_with(alloc, &[(512, 47), (304, 21)]),
-        flawed(26, 1, 2)
+        flawed(COUNT_DIFFERS, 1, 2)
     );
     // The last chain goes on in the dynamic table behind it, of which the third word is the first that is odd.
-    assert_eq!(rt; library_with(alloc, &[(284, 10)]), flawed(26, 2, 5));
+    assert_eq!(rt;
+        library_with(alloc, &[(284, 10)]),
+        flawed(COUNT_DIFFERS, 2, 5)
+    );
 }
 
 #[test]
@@ -196,16 +217,16 @@ fn damaged_tables(rt: HostRuntime) {
     let alloc = rt.alloc();
     // A chain that leads back, in the hash table; three Bloom words, and a bucket below the first listed symbol, in the
     // GNU hash table.
-    assert_eq!(rt; library_with(alloc, &[(248, 1)]), flawed(24, 4, 0));
+    assert_eq!(rt; library_with(alloc, &[(248, 1)]), flawed(HASH_RANGE, 4, 0));
     assert_eq!(rt;
         library_with(alloc, &[(264, 3)]),
-        flawed(24, 0x6fff_fef5, 0)
+        flawed(HASH_RANGE, 0x6fff_fef5, 0)
     );
     assert_eq!(rt;
         library_with(alloc, &[(260, 2)]),
-        flawed(24, 0x6fff_fef5, 0)
+        flawed(HASH_RANGE, 0x6fff_fef5, 0)
     );
-    assert_eq!(rt; library_with(alloc, &[(208, 5)]), flawed(28, 1, 0));
+    assert_eq!(rt; library_with(alloc, &[(208, 5)]), flawed(SYMBOL_NAME, 1, 0));
     // A Bloom word without bits, and an empty bucket of the hash table.
     let no_bits = [
         (272, 0),
@@ -217,6 +238,6 @@ fn damaged_tables(rt: HostRuntime) {
         (278, 0),
         (279, 0),
     ];
-    assert_eq!(rt; library_with(alloc, &no_bits), flawed(29, 1, 0));
-    assert_eq!(rt; library_with(alloc, &[(240, 0)]), flawed(29, 1, 0));
+    assert_eq!(rt; library_with(alloc, &no_bits), flawed(HASH_BROKEN, 1, 0));
+    assert_eq!(rt; library_with(alloc, &[(240, 0)]), flawed(HASH_BROKEN, 1, 0));
 }

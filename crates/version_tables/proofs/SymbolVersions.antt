@@ -8,6 +8,7 @@ use Rattle.byte_view.specs.Checks.{first_some, flaw, flaw_where}
 use Rattle.byte_view.specs.DynamicFlaws.{has_bit}
 use Rattle.byte_view.specs.declared.constants.TheConstants.{VER_NDX_GLOBAL, VERSYM_HIDDEN, VERSYM_VERSION}
 use Rattle.byte_view.specs.declared.flaws.Flaw.{Flaw}
+use Rattle.byte_view.specs.declared.flaws.TheConstants.{UNKNOWN_INDEX}
 use Rattle.load_model.specs.VersionFlaws.{symbol_flaw, symbols_version_flaw}
 use Rattle.load_model.specs.VersionTables.{hidden_of, index_in, indexed_names, is_hidden, is_versioned, place_by, version_by, version_index, version_of, versions_of, versym_word}
 use Rattle.version_tables.specs.Indexes.{AreFirst, place_in, symbol_word, unknown_at, unknown_word, version_in}
@@ -55,7 +56,7 @@ made_hidden file words count e =
 
 -- a symbol whose index has no name
 unknown_by : ℕ → ℕ → Option ℕ → Option Flaw
-unknown_by symbol index place = flaw_where (nat_lt VER_NDX_GLOBAL index && not (is_some place)) (flaw 32 symbol index)
+unknown_by symbol index place = flaw_where (nat_lt VER_NDX_GLOBAL index && not (is_some place)) (flaw UNKNOWN_INDEX symbol index)
 
 unknown_same : (file words : List ℕ) (places : List (Option ℕ)) (count i : ℕ) → words ≡ map (symbol_word file) (range_with_len 0 count) → AreFirst 32768 places (indexed_names file) → i < count → unknown_at places words i ≡ symbol_flaw file i
 unfolding unknown_at symbol_flaw unknown_by

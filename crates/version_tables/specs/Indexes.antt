@@ -3,6 +3,7 @@ use Rattle.std.specs.Prelude.{ℕ, ◌<◌, ◌≡◌, cond, not, ◌&&◌, List
 use Rattle.byte_view.specs.Checks.{flaw, flaw_where}
 use Rattle.byte_view.specs.declared.constants.TheConstants.{VER_NDX_GLOBAL}
 use Rattle.byte_view.specs.declared.flaws.Flaw.{Flaw}
+use Rattle.byte_view.specs.declared.flaws.TheConstants.{UNKNOWN_INDEX}
 use Rattle.load_model.specs.VersionTables.{index_in, is_versioned, place_by, version_by, versym_word}
 use Rattle.load_model.specs.declared.symbols.Ver.{Ver}
 use Rattle.version_tables.specs.declared.asked.Asked.{Asked}
@@ -36,7 +37,7 @@ symbol_word file symbol = cond (is_versioned file) (versym_word file symbol) VER
 
 -- 32, by the word of a symbol
 abbrev pub unknown_word : List (Option ℕ) → ℕ → ℕ → Option Flaw
-unknown_word places symbol word = flaw_where (nat_lt VER_NDX_GLOBAL (index_in word) && not (is_some (place_in places (index_in word)))) (flaw 32 symbol (index_in word))
+unknown_word places symbol word = flaw_where (nat_lt VER_NDX_GLOBAL (index_in word) && not (is_some (place_in places (index_in word)))) (flaw UNKNOWN_INDEX symbol (index_in word))
 
 unfoldable pub unknown_at : List (Option ℕ) → List ℕ → ℕ → Option Flaw
 unknown_at places words symbol = unknown_word places symbol (slice_index words symbol)

@@ -16,6 +16,7 @@ use crate::faults::{VersionFault, flawed};
 use crate::records::{Vernaux, Verneed, vernaux_at};
 use crate::tables::check_text;
 use byte_view::constants::{VER_FLG_WEAK, VERSYM_VERSION};
+use byte_view::flaws::VERSION_RANGE;
 use elf_headers::Elf;
 
 /// A version that is asked of a file.
@@ -53,7 +54,7 @@ fn good_vernaux(
     ensures limit { IfOk result (λ _. at + 16 ≤ HIGHEST_END) }
 {
     let Some(vernaux) = vernaux_at(elf, bytes, at) else {
-        return Err(flawed(30, at, 0));
+        return Err(flawed(VERSION_RANGE, at, 0));
     };
     check_text(size, vernaux.name)?;
     check_next(said, j, vernaux.next)?;

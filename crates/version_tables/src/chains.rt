@@ -7,6 +7,7 @@ ghost use Rattle.load_model.specs.VersionFlaws.{bad_next};
 ghost use Rattle.version_tables.specs.Faults.{flaw_of};
 
 use crate::faults::{VersionFault, flawed};
+use byte_view::flaws::VERSION_COUNT;
 
 /// Is record `k`, counted from 0, the last of `said` exactly where it says that none follows?
 pub(crate) fn check_next(said: u64, k: u64, next: u32) -> Result<(), VersionFault>
@@ -16,10 +17,10 @@ pub(crate) fn check_next(said: u64, k: u64, next: u32) -> Result<(), VersionFaul
 {
     let found = k + 1;
     if found < said && next == 0 {
-        return Err(flawed(31, said, found));
+        return Err(flawed(VERSION_COUNT, said, found));
     }
     if found == said && next != 0 {
-        return Err(flawed(31, said, found + 1));
+        return Err(flawed(VERSION_COUNT, said, found + 1));
     }
     Ok(())
 }

@@ -19,6 +19,7 @@ use crate::records::{Verdaux, Verdef, verdaux_at, verdef_at};
 use crate::tables::{check_text, count_by};
 use byte_view::Entry;
 use byte_view::constants::{DT_VERDEF, DT_VERDEFNUM, VER_CURRENT, VERSYM_VERSION};
+use byte_view::flaws::VERSION_RANGE;
 use dyn_table::{Dyn, strings_size, value_of};
 use elf_headers::Elf;
 use std::alloc::Global;
@@ -47,10 +48,10 @@ fn good_verdef(elf: &Elf, bytes: &[u8], at: u64) -> Result<Verdef, VersionFault>
     ensures limit { IfOk result (λ _. at + 20 ≤ HIGHEST_END) }
 {
     let Some(verdef) = verdef_at(elf, bytes, at) else {
-        return Err(flawed(30, at, 0));
+        return Err(flawed(VERSION_RANGE, at, 0));
     };
     if verdef.version != VER_CURRENT || verdef.cnt == 0 {
-        return Err(flawed(30, at, 0));
+        return Err(flawed(VERSION_RANGE, at, 0));
     }
     Ok(verdef)
 }
@@ -63,7 +64,7 @@ fn good_verdaux(elf: &Elf, bytes: &[u8], at: u64) -> Result<Verdaux, VersionFaul
 {
     match verdaux_at(elf, bytes, at) {
         Some(verdaux) => Ok(verdaux),
-        None => Err(flawed(30, at, 0)),
+        None => Err(flawed(VERSION_RANGE, at, 0)),
     }
 }
 

@@ -20,6 +20,7 @@ use crate::records::{Verneed, verneed_at};
 use crate::tables::{check_text, count_by};
 use byte_view::Entry;
 use byte_view::constants::{DT_VERNEED, DT_VERNEEDNUM, VER_CURRENT};
+use byte_view::flaws::VERSION_RANGE;
 use dyn_table::{Dyn, strings_size, value_of};
 use elf_headers::Elf;
 use std::alloc::Global;
@@ -44,10 +45,10 @@ fn good_verneed(elf: &Elf, bytes: &[u8], size: u64, at: u64) -> Result<Verneed, 
     ensures within { IfOk result (λ v. v.place + 16 ≤ length bytes.now) }
 {
     let Some(verneed) = verneed_at(elf, bytes, at) else {
-        return Err(flawed(30, at, 0));
+        return Err(flawed(VERSION_RANGE, at, 0));
     };
     if verneed.version != VER_CURRENT {
-        return Err(flawed(30, at, 0));
+        return Err(flawed(VERSION_RANGE, at, 0));
     }
     check_text(size, verneed.file)?;
     Ok(verneed)

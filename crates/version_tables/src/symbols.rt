@@ -18,6 +18,7 @@ use crate::faults::{VersionFault, flawed};
 use crate::indexes::place_in;
 use crate::memory::backed;
 use byte_view::constants::{DT_VERSYM, VER_NDX_GLOBAL, VERSYM_HIDDEN, VERSYM_VERSION};
+use byte_view::flaws::{UNKNOWN_INDEX, VERSION_RANGE};
 use dyn_table::{Dyn, value_of};
 use elf_headers::{Elf, half};
 use std::alloc::{AllocError, Global};
@@ -41,11 +42,11 @@ fn versym_words(
     count: u32,
 ) -> Result<Vec<u16>, VersionFault>
     requires { IsReadFrom elf.now bytes.now }
-    ensures flaw { TellsBy flaw_of result (flaw_where (is_unbacked bytes.now at (2 * count)) (flaw 30 at 0)) }
+    ensures flaw { TellsBy flaw_of result (flaw_where (is_unbacked bytes.now at (2 * count)) (flaw VERSION_RANGE at 0)) }
     ensures words { IfOk result (λ words. words.items ≡ map (λ i. memory_number 2 bytes.now (at + 2 * i)) (range_with_len 0 count)) }
 {
     let Some(place) = backed(elf, bytes, at, 2 * u64::from(count)) else {
-        return Err(flawed(30, at, 0));
+        return Err(flawed(VERSION_RANGE, at, 0));
     };
     match words_at(alloc, bytes, place, count) {
         Ok(words) => Ok(words),
@@ -90,7 +91,7 @@ fn check_index(places: &[Option<u32>], symbol: u64, word: u16) -> Result<(), Ver
 {
     let index = word & VERSYM_VERSION;
     if index > VER_NDX_GLOBAL && place_in(places, index).is_none() {
-        return Err(flawed(32, symbol, u64::from(index)));
+        return Err(flawed(UNKNOWN_INDEX, symbol, u64::from(index)));
     }
     Ok(())
 }

@@ -9,6 +9,7 @@ ghost use Rattle.load_model.specs.VersionTables.{count_by, text_of};
 ghost use Rattle.version_tables.specs.Faults.{flaw_of};
 
 use crate::faults::{VersionFault, flawed};
+use byte_view::flaws::STRING_PLACE;
 use dyn_table::Dyn;
 
 /// How many records a table has, of which the dynamic table says where it is and how many they are.
@@ -24,11 +25,11 @@ pub(crate) fn count_by(table: Option<u64>, said: Option<u64>) -> u64
 
 /// Does a place lie in a string table of this size?
 pub(crate) fn check_text(size: u64, place: u32) -> Result<(), VersionFault>
-    ensures { TellsBy flaw_of result (flaw_where (nat_le size place) (flaw 22 place 0)) }
+    ensures { TellsBy flaw_of result (flaw_where (nat_le size place) (flaw STRING_PLACE place 0)) }
 {
     let place = u64::from(place);
     if size <= place {
-        return Err(flawed(22, place, 0));
+        return Err(flawed(STRING_PLACE, place, 0));
     }
     Ok(())
 }

@@ -3,6 +3,7 @@
 ghost use Rattle.std.specs.Prelude.{◌+◌, ◌≤◌, length};
 
 use super::{VersionFault, Versions};
+use byte_view::flaws::{STRING_PLACE, UNKNOWN_INDEX, VERSION_COUNT, VERSION_RANGE};
 use dyn_table::Dyn;
 use elf_headers::Elf;
 use load_model::{Ask, Flaw, Ver};
@@ -180,15 +181,27 @@ fn library_that_asks(rt: HostRuntime) {
 #[test]
 fn damaged_asks(rt: HostRuntime) {
     let alloc = rt.alloc();
-    assert_eq!(rt; asking_fault(alloc, 256, &[2, 0]), flawed(30, 256, 0));
-    assert_eq!(rt; asking_fault(alloc, 258, &[2, 0]), flawed(31, 2, 1));
-    assert_eq!(rt; asking_fault(alloc, 268, &[16, 0, 0, 0]), flawed(31, 1, 2));
-    assert_eq!(rt; asking_fault(alloc, 440, &[2]), flawed(31, 2, 1));
+    assert_eq!(rt;
+        asking_fault(alloc, 256, &[2, 0]),
+        flawed(VERSION_RANGE, 256, 0)
+    );
+    assert_eq!(rt;
+        asking_fault(alloc, 258, &[2, 0]),
+        flawed(VERSION_COUNT, 2, 1)
+    );
+    assert_eq!(rt;
+        asking_fault(alloc, 268, &[16, 0, 0, 0]),
+        flawed(VERSION_COUNT, 1, 2)
+    );
+    assert_eq!(rt; asking_fault(alloc, 440, &[2]), flawed(VERSION_COUNT, 2, 1));
     assert_eq!(rt;
         asking_fault(alloc, 264, &[0, 0xff, 0xff, 0xff]),
-        flawed(30, 4_294_967_296, 0)
+        flawed(VERSION_RANGE, 4_294_967_296, 0)
     );
-    assert_eq!(rt; asking_fault(alloc, 280, &[29, 0, 0, 0]), flawed(22, 29, 0));
+    assert_eq!(rt;
+        asking_fault(alloc, 280, &[29, 0, 0, 0]),
+        flawed(STRING_PLACE, 29, 0)
+    );
 }
 
 #[test]
@@ -220,14 +233,26 @@ fn library_that_defines(rt: HostRuntime) {
 fn damaged_definitions(rt: HostRuntime) {
     let alloc = rt.alloc();
     // No name, four definitions, a short chain, and an index that nothing has.
-    assert_eq!(rt; defining_fault(alloc, 250, &[0]), flawed(30, 244, 0));
-    assert_eq!(rt; defining_fault(alloc, 464, &[4]), flawed(31, 4, 3));
-    assert_eq!(rt; defining_fault(alloc, 260, &[0]), flawed(31, 3, 2));
-    assert_eq!(rt; defining_fault(alloc, 208, &[4]), flawed(32, 4, 4));
+    assert_eq!(rt;
+        defining_fault(alloc, 250, &[0]),
+        flawed(VERSION_RANGE, 244, 0)
+    );
+    assert_eq!(rt;
+        defining_fault(alloc, 464, &[4]),
+        flawed(VERSION_COUNT, 4, 3)
+    );
+    assert_eq!(rt;
+        defining_fault(alloc, 260, &[0]),
+        flawed(VERSION_COUNT, 3, 2)
+    );
+    assert_eq!(rt;
+        defining_fault(alloc, 208, &[4]),
+        flawed(UNKNOWN_INDEX, 4, 4)
+    );
     // Versym past the file.
     assert_eq!(rt;
         defining_fault(alloc, 432, &[255, 255]),
-        flawed(30, 65_535, 0)
+        flawed(VERSION_RANGE, 65_535, 0)
     );
 }
 

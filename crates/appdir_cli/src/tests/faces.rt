@@ -1,5 +1,6 @@
 //! What a loader sees of made objects: what their shapes say.
 use super::made::{bare, file_of, name, names};
+use byte_view::flaws::NO_SYMBOL_COUNT;
 use elf_face::{Face, Flaw, flaw_of, read_face};
 use elf_make::{Export, Import, Shape};
 use load_model::{Ask, Class, List, Name, NoMemory, Offers, Sym, Ver};
@@ -225,7 +226,7 @@ fn symbols_are_counted_by_the_section(rt: HostRuntime) -> Result<(), Fail> {
     let alloc = rt.alloc();
     assert_eq!(rt; counted(alloc, true)?, Ok(2));
     let uncounted = Flaw {
-        code: 25,
+        code: NO_SYMBOL_COUNT,
         a: 0,
         b: 0,
     };
