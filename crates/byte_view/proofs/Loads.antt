@@ -2,7 +2,8 @@
 use Rattle.std.proofs.Common.{◌≡◌, ℕ, zero, suc, ◌<◌, ◌≤◌, Bool, true, false, cond, List, [], ◌∷◌, Option, Some, None, length, refl, arith, get_or, not}
 use Rattle.std.specs.List.{filter, list_any, position_from}
 use Rattle.std.proofs.lemmas.Bool.Decides.{nat_tests}
-use Rattle.byte_view.specs.Checks.{first_some, flaw, flaw_at, flaw_where}
+use Rattle.answers.specs.First.{first_some, some_where}
+use Rattle.byte_view.specs.Checks.{flaw, flaw_at}
 use Rattle.byte_view.specs.Headers.{headers, is_load, memory_end}
 use Rattle.byte_view.specs.HeaderFlaws.{bad_range, falling, first_below, has_bad_range, header_flaw, ident_flaw, no_load, overlapping, segment_flaw, word_flaw}
 use Rattle.byte_view.specs.declared.flaws.Flaw.{Flaw}
@@ -80,7 +81,7 @@ none_bad len segments e = go (position_from (has_bad_range len) 0 segments) e
 some_load : (segments : List Segment) → no_load segments ≡ None → list_any is_load segments ≡ true
 some_load segments e = go (list_any is_load segments) e
   where
-    go : (b : Bool) → flaw_where (not b) (flaw NO_LOAD 0 0) ≡ None → b ≡ true
+    go : (b : Bool) → some_where (not b) (flaw NO_LOAD 0 0) ≡ None → b ≡ true
     go true e = refl
     go false e = absurd (cc)
 

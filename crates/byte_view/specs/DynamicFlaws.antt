@@ -2,7 +2,8 @@
 use Rattle.std.specs.Prelude.{ℕ, ◌+◌, ◌-◌, Bool, false, not, ◌==◌, ◌&&◌, ◌||◌, nat_lt, nat_le, List, [], ◌∷◌, ◌++◌, Option, Some, None, is_some, bit_and, drop}
 use Rattle.std.specs.List.{find, list_any, position_from, before_first}
 use Rattle.std.specs.Option.{option_and_then, option_map}
-use Rattle.byte_view.specs.Checks.{flaw, flaw_where, flaw_at, first_some}
+use Rattle.answers.specs.First.{first_some, some_where}
+use Rattle.byte_view.specs.Checks.{flaw, flaw_at}
 use Rattle.byte_view.specs.Headers.{headers, is_dynamic}
 use Rattle.byte_view.specs.Memory.{memory_in, range_in}
 use Rattle.byte_view.specs.Dynamic.{dynamic_table, is_end, strings_at, strings_size}
@@ -28,11 +29,11 @@ begins_at place (Some range) = range.0 == place
 
 -- 15, DynamicPlace: no room for an entry, or memory does not have it from the file, at the header's offset
 abbrev pub misplaced : List Segment → Segment → Option Flaw
-misplaced segments s = flaw_where (nat_lt s.filesz 16 || not (begins_at s.offset (range_in segments s.vaddr s.filesz))) (flaw DYNAMIC_PLACE 0 0)
+misplaced segments s = some_where (nat_lt s.filesz 16 || not (begins_at s.offset (range_in segments s.vaddr s.filesz))) (flaw DYNAMIC_PLACE 0 0)
 
 -- 16, NoEnd: no DT_NULL
 abbrev pub no_end : List Entry → Option Flaw
-no_end table = flaw_where (not (list_any is_end table)) (flaw NO_END 0 0)
+no_end table = some_where (not (list_any is_end table)) (flaw NO_END 0 0)
 
 -- 17, TagRefused: what would change how libraries are found or bound, in ways that are not modelled
 abbrev pub has_bit : ℕ → ℕ → Bool
@@ -59,14 +60,14 @@ is_repeated before e = is_single e.tag && has_tag e.tag before
 unfoldable pub entry_flaw : List Entry → List Entry → Option Flaw
 entry_flaw before [] = None
 entry_flaw before (e ∷ rest) =
-    first_some (flaw_where (is_refused e) (flaw TAG_REFUSED e.tag 0) ∷ flaw_where (is_repeated before e) (flaw REPEATED e.tag 0) ∷ entry_flaw (before ++ e ∷ []) rest ∷ [])
+    first_some (some_where (is_refused e) (flaw TAG_REFUSED e.tag 0) ∷ some_where (is_repeated before e) (flaw REPEATED e.tag 0) ∷ entry_flaw (before ++ e ∷ []) rest ∷ [])
 
 -- 19, MissingTag: a tag that each table has, or that another tag asks for
 abbrev pub missing : ℕ → List Entry → Option Flaw
-missing tag entries = flaw_where (not (has_tag tag entries)) (flaw MISSING_TAG tag 0)
+missing tag entries = some_where (not (has_tag tag entries)) (flaw MISSING_TAG tag 0)
 
 abbrev pub missing_beside : ℕ → ℕ → List Entry → Option Flaw
-missing_beside tag wanted entries = flaw_where (has_tag tag entries && not (has_tag wanted entries)) (flaw MISSING_TAG wanted 0)
+missing_beside tag wanted entries = some_where (has_tag tag entries && not (has_tag wanted entries)) (flaw MISSING_TAG wanted 0)
 
 unfoldable pub missing_flaw : List Entry → Option Flaw
 missing_flaw entries =
@@ -75,7 +76,7 @@ missing_flaw entries =
 -- 20, StringsRange: no string table, or memory does not have it from the file
 abbrev pub no_strings : List Segment → List Entry → Option Flaw
 no_strings segments entries =
-    flaw_where ((strings_size entries == 0) || not (is_some (range_in segments (strings_at entries) (strings_size entries)))) (flaw STRINGS_RANGE 0 0)
+    some_where ((strings_size entries == 0) || not (is_some (range_in segments (strings_at entries) (strings_size entries)))) (flaw STRINGS_RANGE 0 0)
 
 abbrev pub is_zero : Option ℕ → Bool
 is_zero None = false
@@ -84,7 +85,7 @@ is_zero (Some c) = c == 0
 -- 21, StringsEnd: the last byte of the string table is not zero
 abbrev pub unended_strings : List ℕ → List Segment → List Entry → Option Flaw
 unended_strings file segments entries =
-    flaw_where (not (is_zero (memory_in file segments (strings_at entries + (strings_size entries - 1))))) (flaw STRINGS_END 0 0)
+    some_where (not (is_zero (memory_in file segments (strings_at entries + (strings_size entries - 1))))) (flaw STRINGS_END 0 0)
 
 -- 22, StringPlace: a name that lies past the string table, the first such entry
 abbrev pub is_name : Entry → Bool

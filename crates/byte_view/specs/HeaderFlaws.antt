@@ -2,7 +2,8 @@
 use Rattle.std.specs.Prelude.{ℕ, suc, ◌+◌, ◌-◌, ◌*◌, ◌%◌, ◌^◌, Bool, cond, not, ◌==◌, ◌&&◌, ◌||◌, nat_lt, nat_le, eqb, min, List, [], ◌∷◌, Option, Some, None, length}
 use Rattle.std.specs.Int.{is_power_of_two}
 use Rattle.std.specs.List.{list_any, position_from, starts_with}
-use Rattle.byte_view.specs.Checks.{flaw, flaw_where, flaw_at, first_some}
+use Rattle.answers.specs.First.{first_some, some_where}
+use Rattle.byte_view.specs.Checks.{flaw, flaw_at}
 use Rattle.byte_view.specs.Headers.{ei_class, ei_data, ei_version, e_type, e_machine, e_version, e_phoff, e_ehsize, e_phentsize, e_phnum, headers, is_load, is_dynamic, is_interp, file_end, memory_end}
 use Rattle.byte_view.specs.declared.constants.TheConstants.{ELFCLASS64, ELFDATA2LSB, EV_CURRENT, EHDR_SIZE, PHDR_SIZE, ET_EXEC, ET_DYN, EM_X86_64, PN_XNUM, LONGEST_FILE, HIGHEST_END, LEAST_ALIGN}
 use Rattle.byte_view.specs.declared.flaws.Flaw.{Flaw}
@@ -11,48 +12,48 @@ use Rattle.byte_view.specs.declared.segments.Segment.{Segment}
 
 -- 34, TooBig: longer than 512 MiB
 abbrev pub too_big : List ℕ → Option Flaw
-too_big file = flaw_where (nat_lt LONGEST_FILE (length file)) (flaw TOO_BIG (length file) 0)
+too_big file = some_where (nat_lt LONGEST_FILE (length file)) (flaw TOO_BIG (length file) 0)
 
 -- 1, NotElf: the first four bytes are not 7F 45 4C 46
 abbrev pub not_elf : List ℕ → Option Flaw
-not_elf file = flaw_where (not (starts_with eqb file (127 ∷ 69 ∷ 76 ∷ 70 ∷ []))) (flaw NOT_ELF 0 0)
+not_elf file = some_where (not (starts_with eqb file (127 ∷ 69 ∷ 76 ∷ 70 ∷ []))) (flaw NOT_ELF 0 0)
 
 -- 2, Short: the file ends within the ELF header
 abbrev pub short_header : List ℕ → Option Flaw
-short_header file = flaw_where (nat_lt (length file) 64) (flaw SHORT 64 (length file))
+short_header file = some_where (nat_lt (length file) 64) (flaw SHORT 64 (length file))
 
 -- 3, Class: not of 64-bit words
 abbrev pub wrong_class : List ℕ → Option Flaw
-wrong_class file = flaw_where (not (ei_class file == ELFCLASS64)) (flaw CLASS (ei_class file) 0)
+wrong_class file = some_where (not (ei_class file == ELFCLASS64)) (flaw CLASS (ei_class file) 0)
 
 -- 4, Order: not the lowest byte first
 abbrev pub wrong_order : List ℕ → Option Flaw
-wrong_order file = flaw_where (not (ei_data file == ELFDATA2LSB)) (flaw ORDER (ei_data file) 0)
+wrong_order file = some_where (not (ei_data file == ELFDATA2LSB)) (flaw ORDER (ei_data file) 0)
 
 -- 5, IdentVersion: a version other than 1, in e_ident or in e_version
 abbrev pub wrong_ident_version : List ℕ → Option Flaw
-wrong_ident_version file = flaw_where (not (ei_version file == EV_CURRENT)) (flaw IDENT_VERSION (ei_version file) 0)
+wrong_ident_version file = some_where (not (ei_version file == EV_CURRENT)) (flaw IDENT_VERSION (ei_version file) 0)
 
 abbrev pub wrong_version : List ℕ → Option Flaw
-wrong_version file = flaw_where (not (e_version file == EV_CURRENT)) (flaw IDENT_VERSION (e_version file) 0)
+wrong_version file = some_where (not (e_version file == EV_CURRENT)) (flaw IDENT_VERSION (e_version file) 0)
 
 -- 6, Machine: not x86-64
 abbrev pub wrong_machine : List ℕ → Option Flaw
-wrong_machine file = flaw_where (not (e_machine file == EM_X86_64)) (flaw MACHINE (e_machine file) 0)
+wrong_machine file = some_where (not (e_machine file == EM_X86_64)) (flaw MACHINE (e_machine file) 0)
 
 -- 7, Kind: neither a program nor a shared object
 abbrev pub wrong_kind : List ℕ → Option Flaw
-wrong_kind file = flaw_where (not ((e_type file == ET_EXEC) || (e_type file == ET_DYN))) (flaw KIND (e_type file) 0)
+wrong_kind file = some_where (not ((e_type file == ET_EXEC) || (e_type file == ET_DYN))) (flaw KIND (e_type file) 0)
 
 -- 8, HeaderSize: other sizes of the headers, or no number of program headers; the place of the field
 abbrev pub wrong_header_size : List ℕ → Option Flaw
-wrong_header_size file = flaw_where (not (e_ehsize file == EHDR_SIZE)) (flaw HEADER_SIZE 52 0)
+wrong_header_size file = some_where (not (e_ehsize file == EHDR_SIZE)) (flaw HEADER_SIZE 52 0)
 
 abbrev pub wrong_entry_size : List ℕ → Option Flaw
-wrong_entry_size file = flaw_where (not (e_phentsize file == PHDR_SIZE)) (flaw HEADER_SIZE 54 0)
+wrong_entry_size file = some_where (not (e_phentsize file == PHDR_SIZE)) (flaw HEADER_SIZE 54 0)
 
 abbrev pub wrong_number : List ℕ → Option Flaw
-wrong_number file = flaw_where ((e_phnum file == 0) || (e_phnum file == PN_XNUM)) (flaw HEADER_SIZE 56 0)
+wrong_number file = some_where ((e_phnum file == 0) || (e_phnum file == PN_XNUM)) (flaw HEADER_SIZE 56 0)
 
 -- where the program headers end in the file
 abbrev pub headers_end : List ℕ → ℕ
@@ -60,7 +61,7 @@ headers_end file = e_phoff file + 56 * e_phnum file
 
 -- 2, Short: the file ends within the program headers
 abbrev pub short_headers : List ℕ → Option Flaw
-short_headers file = flaw_where (nat_lt (length file) (headers_end file)) (flaw SHORT (min (headers_end file) (2 ^ 64 - 1)) (length file))
+short_headers file = some_where (nat_lt (length file) (headers_end file)) (flaw SHORT (min (headers_end file) (2 ^ 64 - 1)) (length file))
 
 -- the bytes of a LOAD, DYNAMIC or INTERP go past the end of the file
 abbrev pub is_cut : ℕ → Segment → Bool
@@ -83,7 +84,7 @@ bad_range len segments = flaw_at SEGMENT_RANGE (position_from (has_bad_range len
 
 -- 9, NoLoad: nothing is loaded
 abbrev pub no_load : List Segment → Option Flaw
-no_load segments = flaw_where (not (list_any is_load segments)) (flaw NO_LOAD 0 0)
+no_load segments = some_where (not (list_any is_load segments)) (flaw NO_LOAD 0 0)
 
 -- the number of the first LOAD whose address is below the bound that the LOAD before it sets, counted from i; low is the last bound
 unfoldable pub first_below : (Segment → ℕ) → ℕ → ℕ → List Segment → Option ℕ

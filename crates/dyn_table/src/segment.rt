@@ -2,7 +2,7 @@
 
 ghost use Rattle.std.specs.Prelude.{◌≡◌, ◌≤◌, ◌<◌, ◌+◌, ◌*◌, Some, length, IfOk, IfSome};
 ghost use Rattle.std.specs.List.{find, position_from};
-ghost use Rattle.byte_view.specs.Checks.{TellsBy};
+ghost use Rattle.answers.specs.Answers.{TellsBy};
 ghost use Rattle.byte_view.specs.Dynamic.{dynamic_table};
 ghost use Rattle.byte_view.specs.DynamicFlaws.{begins_at, segment_flaw_by, second_place};
 ghost use Rattle.byte_view.specs.Headers.{file_end, is_dynamic};

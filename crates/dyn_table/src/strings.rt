@@ -2,7 +2,7 @@
 
 ghost use Rattle.std.specs.Prelude.{◌≡◌, ◌==◌, ◌≤◌, ◌<◌, ◌&&◌, Some, nat_le, length, drop, IfOk, IfSome, position};
 ghost use Rattle.std.specs.List.{before_first, find, position_or_len};
-ghost use Rattle.byte_view.specs.Checks.{TellsBy};
+ghost use Rattle.answers.specs.Answers.{TellsBy};
 ghost use Rattle.byte_view.specs.Dynamic.{strings_at, strings_size};
 ghost use Rattle.byte_view.specs.DynamicFlaws.{bad_place, is_name, is_zero, strings_flaw};
 ghost use Rattle.byte_view.specs.Memory.{range_in};

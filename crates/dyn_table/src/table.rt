@@ -3,7 +3,7 @@
 ghost use Rattle.std.specs.Prelude.{◌≡◌, ◌<◌, IfOk, IfSome, Some, length, position, take};
 ghost use Rattle.std.specs.List.{before_first};
 ghost use Rattle.std.specs.Option.{option_copied};
-ghost use Rattle.byte_view.specs.Checks.{TellsBy};
+ghost use Rattle.answers.specs.Answers.{TellsBy};
 ghost use Rattle.byte_view.specs.Dynamic.{is_end, string_at, strings_at, strings_size};
 ghost use Rattle.byte_view.specs.DynamicFlaws.{dynamic_flaw, table_flaw};
 ghost use Rattle.byte_view.specs.Memory.{range_in};

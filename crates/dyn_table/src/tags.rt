@@ -1,7 +1,7 @@
 //! The tags of the dynamic table: which are refused, which stand once, and which must be there.
 
 ghost use Rattle.std.specs.Prelude.{◌≡◌, []};
-ghost use Rattle.byte_view.specs.Checks.{TellsBy};
+ghost use Rattle.answers.specs.Answers.{TellsBy};
 ghost use Rattle.byte_view.specs.Dynamic.{value_of};
 ghost use Rattle.byte_view.specs.DynamicFlaws.{entry_flaw, has_tag, is_refused, is_single, missing_flaw, tags_flaw};
 ghost use Rattle.dyn_table.specs.Faults.{flaw_of};

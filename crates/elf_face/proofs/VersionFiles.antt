@@ -4,7 +4,8 @@ use Rattle.std.specs.Prelude.{◌==◌, is_some}
 use Rattle.std.specs.List.{range_with_len}
 use Rattle.std.specs.Option.{unwrap_or}
 use Rattle.std.proofs.lemmas.Bool.Decides.{nat_tests}
-use Rattle.byte_view.specs.Checks.{first_some, flaw}
+use Rattle.answers.specs.First.{first_some}
+use Rattle.byte_view.specs.Checks.{flaw}
 use Rattle.byte_view.specs.HeaderFlaws.{header_flaw}
 use Rattle.byte_view.specs.Headers.{headers}
 use Rattle.byte_view.specs.Memory.{range_in}

@@ -3,7 +3,8 @@ use Rattle.std.proofs.Common.{◌≡◌, ℕ, ◌≤◌, Bool, true, false, List
 use Rattle.std.specs.Prelude.{nat_lt}
 use Rattle.std.specs.List.{find}
 use Rattle.std.proofs.lemmas.Bool.Decides.{nat_tests}
-use Rattle.byte_view.specs.Checks.{flaw, flaw_where}
+use Rattle.answers.specs.First.{some_where}
+use Rattle.byte_view.specs.Checks.{flaw}
 use Rattle.byte_view.specs.HeaderFlaws.{has_bad_range, header_flaw, ident_flaw, not_elf, segment_flaw, short_header, too_big, word_flaw, wrong_class, wrong_ident_version, wrong_order, wrong_version}
 use Rattle.byte_view.specs.Headers.{file_end, headers, is_interp}
 use Rattle.byte_view.specs.Sound.{IsReadFrom}
@@ -30,6 +31,6 @@ header_whole file e =
     let short : short_header file ≡ None = (none_first (short_header file) (wrong_class file ∷ wrong_order file ∷ wrong_ident_version file ∷ wrong_version file ∷ []) elf.1).0 in
     go (nat_lt (length file) 64) refl short
   where
-    go : (b : Bool) → nat_lt (length file) 64 ≡ b → flaw_where b (flaw SHORT 64 (length file)) ≡ None → 64 ≤ length file
+    go : (b : Bool) → nat_lt (length file) 64 ≡ b → some_where b (flaw SHORT 64 (length file)) ≡ None → 64 ≤ length file
     go true t e = absurd (cc)
     go false t e = grind (arith, nat_tests)

@@ -4,7 +4,7 @@
 
 ghost use Rattle.std.specs.Prelude.{◌≡◌, IfOk, is_some};
 ghost use Rattle.std.specs.Option.{option_copied};
-ghost use Rattle.byte_view.specs.Checks.{TellsBy};
+ghost use Rattle.answers.specs.Answers.{TellsBy};
 ghost use Rattle.byte_view.specs.Dynamic.{value_of};
 ghost use Rattle.byte_view.specs.DynamicFlaws.{has_tag};
 ghost use Rattle.byte_view.specs.declared.constants.TheConstants.{DT_VERSYM};

@@ -1,7 +1,7 @@
 //! What a loader sees of a file.
 
 ghost use Rattle.std.specs.Prelude.{◌≡◌, ◌<◌, ◌≤◌, ◌^◌, IfOk, length};
-ghost use Rattle.byte_view.specs.Checks.{TellsBy};
+ghost use Rattle.answers.specs.Answers.{TellsBy};
 ghost use Rattle.byte_view.specs.HeaderFlaws.{header_flaw};
 ghost use Rattle.byte_view.specs.Headers.{e_machine};
 ghost use Rattle.byte_view.specs.Sound.{IsReadFrom};

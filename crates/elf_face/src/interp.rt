@@ -5,7 +5,7 @@
 ghost use Rattle.std.specs.Prelude.{◌≡◌, ◌≤◌, length, option_map};
 ghost use Rattle.std.specs.List.{find};
 ghost use Rattle.std.specs.Option.{option_copied};
-ghost use Rattle.byte_view.specs.Checks.{TellsBy};
+ghost use Rattle.answers.specs.Answers.{TellsBy};
 ghost use Rattle.byte_view.specs.Headers.{file_end, is_interp};
 ghost use Rattle.byte_view.specs.Sound.{IsReadFrom};
 ghost use Rattle.elf_face.specs.Faults.{flaw_of};

@@ -1,7 +1,7 @@
 //! The parts of a file, each read by its own reader.
 
 ghost use Rattle.std.specs.Prelude.{◌≡◌, ◌<◌, ◌^◌, IfOk, length};
-ghost use Rattle.byte_view.specs.Checks.{TellsBy};
+ghost use Rattle.answers.specs.Answers.{TellsBy};
 ghost use Rattle.byte_view.specs.DynamicFlaws.{dynamic_flaw};
 ghost use Rattle.byte_view.specs.HeaderFlaws.{header_flaw};
 ghost use Rattle.byte_view.specs.Sound.{IsReadFrom};

@@ -4,7 +4,7 @@
 
 ghost use Rattle.std.specs.Prelude.{◌≡◌, IfOk, None, map};
 ghost use Rattle.std.specs.List.{find};
-ghost use Rattle.byte_view.specs.Checks.{TellsBy};
+ghost use Rattle.answers.specs.Answers.{TellsBy};
 ghost use Rattle.byte_view.specs.HeaderFlaws.{header_flaw};
 ghost use Rattle.dyn_table.specs.Table.{IsTableOf};
 ghost use Rattle.elf_face.specs.Faults.{flaw_of};

@@ -2,7 +2,7 @@
 
 ghost use Rattle.std.specs.Prelude.{◌≡◌, ◌≤◌, ◌+◌, IfOk, IfSome};
 ghost use Rattle.std.specs.List.{filter, find};
-ghost use Rattle.byte_view.specs.Checks.{TellsBy};
+ghost use Rattle.answers.specs.Answers.{TellsBy};
 ghost use Rattle.byte_view.specs.HeaderFlaws.{header_flaw};
 ghost use Rattle.byte_view.specs.Headers.{file_end, headers};
 ghost use Rattle.byte_view.specs.Memory.{backs, byte_of, file_range, holds, memory_at, memory_in, range_in, the_only};

@@ -1,7 +1,7 @@
 //! The ELF header: what kind of file it is, and where the program headers are.
 
 ghost use Rattle.std.specs.Prelude.{◌≡◌, ◌≤◌, ◌+◌, ◌*◌, length, OnOk};
-ghost use Rattle.byte_view.specs.Checks.{TellsBy};
+ghost use Rattle.answers.specs.Answers.{TellsBy};
 ghost use Rattle.byte_view.specs.HeaderFlaws.{headers_end, ident_flaw, word_flaw};
 ghost use Rattle.elf_headers.specs.Faults.{flaw_of};
 

@@ -2,7 +2,7 @@
 
 ghost use Rattle.std.specs.Prelude.{◌≡◌, ◌≤◌, length, IfOk};
 ghost use Rattle.std.specs.List.{list_any, position_from};
-ghost use Rattle.byte_view.specs.Checks.{TellsBy};
+ghost use Rattle.answers.specs.Answers.{TellsBy};
 ghost use Rattle.byte_view.specs.HeaderFlaws.{first_below, has_bad_range, headers_end, is_alignment, is_cut, is_unmappable, segment_flaw};
 ghost use Rattle.byte_view.specs.Headers.{headers, is_dynamic, is_interp, is_load};
 ghost use Rattle.elf_headers.specs.Bounds.{bound_by};

@@ -9,7 +9,7 @@ use Rattle.std.proofs.lemmas.List.Splits.{slice_split_none}
 use Rattle.std.proofs.lemmas.Str.{IsUtf8-drop, IsUtf8-from_is_utf8, IsCharBoundary-after_ascii}
 use Rattle.path_text.specs.Path.{IsNormalPath, IsNamed, begins_at_root, has_nul, is_empty, normal_path, parts_of, path_fault, path_of, rooted}
 use Rattle.path_text.specs.FileName.{IsFileName, IsNameByte}
-use Rattle.path_text.specs.First.{fault_where, first_fault, value_unless}
+use Rattle.answers.specs.First.{first_some, some_where, value_unless}
 use Rattle.path_text.specs.Target.{IsTarget}
 use Rattle.path_text.specs.declared.absolute.PathFault.TheVariants.{Empty, Relative, HasNul, NotText}
 use Rattle.path_text.proofs.PathLemmas.{not_contained, All-from_not_contained, zero_contained, named_parts-IsNormalPath, begins_at_root-IsNormalPath}
@@ -103,7 +103,7 @@ no_nul dir name d h =
     let all : All (λ c. c ≢ 0) (dir ++ 47 ∷ name) = All-append (λ c. c ≢ 0) dir (47 ∷ name) (All-from_not_contained dir 0 d.no_zero) (All-cons (λ c. c ≢ 0) 47 name (λ e. omega arith) names) in
     false_from_ne_true (has_nul (dir ++ 47 ∷ name)) (λ e. not_contained (dir ++ 47 ∷ name) 0 all (zero_contained (dir ++ 47 ∷ name) e))
 
-fault_at : (a b c d : Bool) → a ≡ false → b ≡ true → c ≡ false → d ≡ false → first_fault (fault_where a Empty ∷ fault_where (not b) Relative ∷ fault_where c HasNul ∷ fault_where (not d) NotText ∷ []) ≡ Some NotText
+fault_at : (a b c d : Bool) → a ≡ false → b ≡ true → c ≡ false → d ≡ false → first_some (some_where a Empty ∷ some_where (not b) Relative ∷ some_where c HasNul ∷ some_where (not d) NotText ∷ []) ≡ Some NotText
 fault_at a b c d e f g h = rw (e, f, g, h) refl
 
 pub not_joined : (dir name : List ℕ) → IsNormalPath dir → IsFileName name → (IsUtf8 name → ⊥) → path_of (dir ++ 47 ∷ name) ≡ Err NotText

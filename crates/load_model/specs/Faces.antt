@@ -3,7 +3,8 @@ use Rattle.std.specs.Prelude.{ℕ, Bool, false, not, ◌==◌, ◌&&◌, ◌||�
 use Rattle.std.specs.List.{before_first, enumerate_from, find}
 use Rattle.std.specs.Option.{option_map}
 use Rattle.std.specs.Str.{is_utf8}
-use Rattle.byte_view.specs.Checks.{first_some, flaw, flaw_at, flaw_where}
+use Rattle.answers.specs.First.{first_some, some_where}
+use Rattle.byte_view.specs.Checks.{flaw, flaw_at}
 use Rattle.byte_view.specs.Dynamic.{dynamic_entries, value_of}
 use Rattle.byte_view.specs.DynamicFlaws.{dynamic_flaw, has_bit, has_tag}
 use Rattle.byte_view.specs.HeaderFlaws.{header_flaw}
@@ -106,7 +107,7 @@ bad_version_file file = flaw_at BAD_NAME (find (is_no_text file) (map (vn_file f
 -- or the interpreter's path, by its place in the file
 abbrev pub bad_path_in : List ℕ → Option Segment → Option Flaw
 bad_path_in file None = None
-bad_path_in file (Some s) = flaw_where (not (is_utf8 (path_in file s))) (flaw BAD_NAME s.offset 0)
+bad_path_in file (Some s) = some_where (not (is_utf8 (path_in file s))) (flaw BAD_NAME s.offset 0)
 
 abbrev pub bad_interp : List ℕ → Option Flaw
 bad_interp file = bad_path_in file (find is_interp (headers file))

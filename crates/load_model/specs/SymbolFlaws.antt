@@ -2,7 +2,8 @@
 use Rattle.std.specs.Prelude.{ℕ, ◌*◌, Bool, false, not, ◌==◌, ◌&&◌, nat_lt, nat_le, List, [], ◌∷◌, Option, Some, None, is_some, length, slice_get}
 use Rattle.std.specs.List.{find, position_from, range_with_len}
 use Rattle.std.specs.Option.{option_and_then, option_map, unwrap_or}
-use Rattle.byte_view.specs.Checks.{flaw, flaw_where, flaw_at, first_some}
+use Rattle.answers.specs.First.{first_some, some_where}
+use Rattle.byte_view.specs.Checks.{flaw, flaw_at}
 use Rattle.byte_view.specs.Dynamic.{dynamic_entries, strings_of, strings_size, text_in, value_of}
 use Rattle.byte_view.specs.Headers.{headers}
 use Rattle.byte_view.specs.Memory.{range_in}
@@ -21,7 +22,7 @@ use Rattle.load_model.specs.declared.symbols.RawSym.{RawSym}
 
 -- 23, EntrySize: symbols of another size
 abbrev pub wrong_symbol_size : List Entry → Option Flaw
-wrong_symbol_size entries = flaw_where (not (symbol_size entries == SYM_SIZE)) (flaw ENTRY_SIZE (symbol_size entries) 0)
+wrong_symbol_size entries = some_where (not (symbol_size entries == SYM_SIZE)) (flaw ENTRY_SIZE (symbol_size entries) 0)
 
 -- 24, HashRange: a hash table that is not backed, or breaks a rule of its kind
 abbrev pub is_sysv_whole : List ℕ → List Segment → ℕ → Bool
@@ -30,7 +31,7 @@ is_sysv_whole file segments addr =
 
 abbrev pub bad_sysv : List ℕ → List Segment → Option ℕ → Option Flaw
 bad_sysv file segments None = None
-bad_sysv file segments (Some addr) = flaw_where (not (is_sysv_whole file segments addr)) (flaw HASH_RANGE DT_HASH 0)
+bad_sysv file segments (Some addr) = some_where (not (is_sysv_whole file segments addr)) (flaw HASH_RANGE DT_HASH 0)
 
 abbrev pub is_gnu_whole : List ℕ → List Segment → ℕ → Bool
 is_gnu_whole file segments addr =
@@ -40,7 +41,7 @@ is_gnu_whole file segments addr =
 
 abbrev pub bad_gnu : List ℕ → List Segment → Option ℕ → Option Flaw
 bad_gnu file segments None = None
-bad_gnu file segments (Some addr) = flaw_where (not (is_gnu_whole file segments addr)) (flaw HASH_RANGE DT_GNU_HASH 0)
+bad_gnu file segments (Some addr) = some_where (not (is_gnu_whole file segments addr)) (flaw HASH_RANGE DT_GNU_HASH 0)
 
 unfoldable pub hash_flaw : List ℕ → List Segment → List Entry → Option Flaw
 hash_flaw file segments entries =
@@ -48,18 +49,18 @@ hash_flaw file segments entries =
 
 -- 25, NoSymbolCount: nothing says how many symbols there are
 abbrev pub no_count : Option ℕ → Option Flaw
-no_count count = flaw_where (not (is_some count)) (flaw NO_SYMBOL_COUNT 0 0)
+no_count count = some_where (not (is_some count)) (flaw NO_SYMBOL_COUNT 0 0)
 
 -- 26, CountDiffers: the section and the hash table say other numbers
 abbrev pub differing_counts : Option ℕ → Option ℕ → Option Flaw
 differing_counts None hash = None
 differing_counts (Some section) None = None
-differing_counts (Some section) (Some hash) = flaw_where (not (section == hash)) (flaw COUNT_DIFFERS section hash)
+differing_counts (Some section) (Some hash) = some_where (not (section == hash)) (flaw COUNT_DIFFERS section hash)
 
 -- or the GNU hash table reaches past the symbols
 abbrev pub reach_past : ℕ → Option ℕ → Option Flaw
 reach_past count None = None
-reach_past count (Some reach) = flaw_where (nat_lt count reach) (flaw COUNT_DIFFERS count reach)
+reach_past count (Some reach) = some_where (nat_lt count reach) (flaw COUNT_DIFFERS count reach)
 
 unfoldable pub count_flaw : List ℕ → List Segment → List Entry → Option Flaw
 count_flaw file segments entries =
@@ -67,7 +68,7 @@ count_flaw file segments entries =
 
 -- 27, SymbolRange: memory does not have the symbols from the file
 abbrev pub unbacked_symbols : List Segment → ℕ → ℕ → Option Flaw
-unbacked_symbols segments addr count = flaw_where (not (is_some (range_in segments addr (24 * count)))) (flaw SYMBOL_RANGE 0 0)
+unbacked_symbols segments addr count = some_where (not (is_some (range_in segments addr (24 * count)))) (flaw SYMBOL_RANGE 0 0)
 
 -- 28, SymbolName: a name that lies past the string table, the first such symbol
 abbrev pub bad_symbol_name : ℕ → List RawSym → Option Flaw

@@ -1,7 +1,8 @@
 -- The flaws of the symbol versions, in the order in which they are named (Linux Standard Base, Symbol Versioning; docs/ELF.md)
 use Rattle.std.specs.Prelude.{ℕ, ◌+◌, ◌*◌, Bool, not, ◌==◌, ◌&&◌, ◌||◌, nat_le, nat_lt, List, [], ◌∷◌, Option, is_some, map}
 use Rattle.std.specs.List.{range_with_len}
-use Rattle.byte_view.specs.Checks.{first_some, flaw, flaw_where}
+use Rattle.answers.specs.First.{first_some, some_where}
+use Rattle.byte_view.specs.Checks.{flaw}
 use Rattle.byte_view.specs.Dynamic.{dynamic_entries, strings_size}
 use Rattle.byte_view.specs.Headers.{headers}
 use Rattle.byte_view.specs.Memory.{range_in}
@@ -16,30 +17,30 @@ is_unbacked file at size = not (is_some (range_in (headers file) at size))
 
 -- 30, VersionRange: a record that is not in the file, of another version, or a definition without a name; its address
 abbrev pub bad_versym : ℕ → List ℕ → Option Flaw
-bad_versym count file = flaw_where (is_versioned file && is_unbacked file (versym file) (2 * count)) (flaw VERSION_RANGE (versym file) 0)
+bad_versym count file = some_where (is_versioned file && is_unbacked file (versym file) (2 * count)) (flaw VERSION_RANGE (versym file) 0)
 
 abbrev pub bad_verdef : List ℕ → ℕ → Option Flaw
-bad_verdef file at = flaw_where (is_unbacked file at 20 || (not (vd_version file at == VER_CURRENT) || (vd_cnt file at == 0))) (flaw VERSION_RANGE at 0)
+bad_verdef file at = some_where (is_unbacked file at 20 || (not (vd_version file at == VER_CURRENT) || (vd_cnt file at == 0))) (flaw VERSION_RANGE at 0)
 
 abbrev pub bad_verdaux : List ℕ → ℕ → Option Flaw
-bad_verdaux file at = flaw_where (is_unbacked file at 8) (flaw VERSION_RANGE at 0)
+bad_verdaux file at = some_where (is_unbacked file at 8) (flaw VERSION_RANGE at 0)
 
 abbrev pub bad_verneed : List ℕ → ℕ → Option Flaw
-bad_verneed file at = flaw_where (is_unbacked file at 16 || not (vn_version file at == VER_CURRENT)) (flaw VERSION_RANGE at 0)
+bad_verneed file at = some_where (is_unbacked file at 16 || not (vn_version file at == VER_CURRENT)) (flaw VERSION_RANGE at 0)
 
 abbrev pub bad_vernaux : List ℕ → ℕ → Option Flaw
-bad_vernaux file at = flaw_where (is_unbacked file at 16) (flaw VERSION_RANGE at 0)
+bad_vernaux file at = some_where (is_unbacked file at 16) (flaw VERSION_RANGE at 0)
 
 -- 22, StringPlace: a name that lies past the string table
 abbrev pub bad_text : List ℕ → ℕ → Option Flaw
-bad_text file place = flaw_where (nat_le (strings_size (dynamic_entries file)) place) (flaw STRING_PLACE place 0)
+bad_text file place = some_where (nat_le (strings_size (dynamic_entries file)) place) (flaw STRING_PLACE place 0)
 
 -- 31, VersionCount: record k, counted from 0, is the last by its next word and not by the said number, or the other way round
 abbrev pub ends_early : ℕ → ℕ → ℕ → Option Flaw
-ends_early said k next = flaw_where (nat_lt (k + 1) said && (next == 0)) (flaw VERSION_COUNT said (k + 1))
+ends_early said k next = some_where (nat_lt (k + 1) said && (next == 0)) (flaw VERSION_COUNT said (k + 1))
 
 abbrev pub goes_on : ℕ → ℕ → ℕ → Option Flaw
-goes_on said k next = flaw_where ((k + 1 == said) && not (next == 0)) (flaw VERSION_COUNT said (said + 1))
+goes_on said k next = some_where ((k + 1 == said) && not (next == 0)) (flaw VERSION_COUNT said (said + 1))
 
 abbrev pub bad_next : ℕ → ℕ → ℕ → Option Flaw
 bad_next said k next = first_some (ends_early said k next ∷ goes_on said k next ∷ [])
@@ -79,7 +80,7 @@ verneeds_flaw file = first_some (map (verneed_flaw file) (range_with_len 0 (vern
 
 -- 32, UnknownIndex: a symbol whose version index is 2 or more and has no name
 abbrev pub unknown_index : List (ℕ × ℕ) → ℕ → ℕ → Option Flaw
-unknown_index names symbol index = flaw_where (nat_lt VER_NDX_GLOBAL index && not (is_some (place_by index names))) (flaw UNKNOWN_INDEX symbol index)
+unknown_index names symbol index = some_where (nat_lt VER_NDX_GLOBAL index && not (is_some (place_by index names))) (flaw UNKNOWN_INDEX symbol index)
 
 unfoldable pub symbol_flaw : List ℕ → ℕ → Option Flaw
 symbol_flaw file symbol = unknown_index (indexed_names file) symbol (version_index file symbol)

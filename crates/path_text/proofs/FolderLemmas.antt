@@ -11,7 +11,7 @@ use Rattle.std.proofs.lemmas.List.Sums.{fold-append}
 use Rattle.std.proofs.lemmas.Str.{IsUtf8-append, IsUtf8-nil}
 use Rattle.std.proofs.lemmas.List.Splits.{join_with_byte-slice_split, slice_split_none, length-slice_split}
 use Rattle.std.proofs.lemmas.Str.Pattern.{NoCharPasses-char, drop_at_char}
-use Rattle.path_text.specs.First.{value_unless}
+use Rattle.answers.specs.First.{value_unless}
 use Rattle.path_text.specs.Path.{IsNamed, IsNormalPath, base_of, begins_at_root, but_last, folder_of, is_empty, last_part, led, named_parts, normal_path, parts_of, path_fault, path_of, rooted}
 use Rattle.path_text.specs.Target.{IsTarget}
 use Rattle.path_text.proofs.PartLemmas.{All-rooted, NoSlash, led_down, named_parts-rooted, or_nothing, walk_down}

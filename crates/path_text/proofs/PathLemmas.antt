@@ -11,7 +11,7 @@ use Rattle.std.proofs.lemmas.List.Splits.{slice_split_none, slice_split_first}
 use Rattle.std.proofs.lemmas.List.Sums.{passes_at_first, fails_before_first}
 use Rattle.std.proofs.lemmas.Str.{IsUtf8-append, IsUtf8-nil, IsUtf8-from_ascii, IsUtf8-from_is_utf8, is_utf8-from_IsUtf8, IsUtf8-take, IsUtf8-drop, IsCharBoundary-before_ascii, IsCharBoundary-after_ascii}
 use Rattle.std.proofs.lemmas.Str.Ascii.{IsAscii-cons, IsAscii-nil}
-use Rattle.path_text.specs.First.{fault_where, first_fault, value_unless}
+use Rattle.answers.specs.First.{first_some, some_where, value_unless}
 use Rattle.path_text.specs.Path.{IsNormalPath, IsPath, IsPathFault, IsNamed, begins_at_root, but_last, folder_of, has_nul, is_empty, named_parts, normal_path, parts_of, path_fault, path_of, rooted}
 use Rattle.path_text.specs.declared.absolute.PathFault.{PathFault}
 use Rattle.path_text.specs.declared.absolute.PathFault.TheVariants.{Empty, Relative, HasNul, NotText}
@@ -19,11 +19,11 @@ use Rattle.path_text.proofs.PartLemmas.{All-parts_of, NoSlash-parts_of, NoSlash,
 
 -- ---- the first fault
 -- with no fault in a list, its first condition does not hold, and there is none in the rest
-pub no_fault : {E : Type 0} (condition : Bool) (fault : E) (more : List (Option E)) → first_fault (fault_where condition fault ∷ more) ≡ None → (condition ≡ false) × (first_fault more ≡ None)
+pub no_fault : {E : Type 0} (condition : Bool) (fault : E) (more : List (Option E)) → first_some (some_where condition fault ∷ more) ≡ None → (condition ≡ false) × (first_some more ≡ None)
 no_fault true fault more h = cc
 no_fault false fault more h = (refl, h)
 
-pub fault_skipped : {E : Type 0} (condition : Bool) (fault : E) (more : List (Option E)) → condition ≡ false → first_fault (fault_where condition fault ∷ more) ≡ first_fault more
+pub fault_skipped : {E : Type 0} (condition : Bool) (fault : E) (more : List (Option E)) → condition ≡ false → first_some (some_where condition fault ∷ more) ≡ first_some more
 fault_skipped true fault more h = cc
 fault_skipped false fault more h = refl
 
@@ -159,7 +159,7 @@ Contains-from_any (y ∷ xs) x h =
     (or_cases (eqb y x) (list_any (λ c. eqb c x) xs) h)
 
 -- a fault is one of those in the list whose condition holds
-pub fault_cases : {E : Type 0} (condition : Bool) (fault : E) (more : List (Option E)) (e : E) → first_fault (fault_where condition fault ∷ more) ≡ Some e → ((condition ≡ true) × (fault ≡ e)) ⊎ ((condition ≡ false) × (first_fault more ≡ Some e))
+pub fault_cases : {E : Type 0} (condition : Bool) (fault : E) (more : List (Option E)) (e : E) → first_some (some_where condition fault ∷ more) ≡ Some e → ((condition ≡ true) × (fault ≡ e)) ⊎ ((condition ≡ false) × (first_some more ≡ Some e))
 fault_cases true fault more e h = inl (refl, cc)
 fault_cases false fault more e h = inr (refl, h)
 

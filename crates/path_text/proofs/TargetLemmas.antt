@@ -8,7 +8,7 @@ use Rattle.std.proofs.lemmas.List.Folds.{Any-from_list_any, list_any_none}
 use Rattle.std.proofs.lemmas.List.Splits.{join_with_byte-slice_split}
 use Rattle.std.proofs.lemmas.Str.{IsUtf8-from_is_utf8, is_utf8-from_IsUtf8}
 use Rattle.std.specs.List.{onto_first}
-use Rattle.path_text.specs.First.{value_unless}
+use Rattle.answers.specs.First.{value_unless}
 use Rattle.path_text.specs.Path.{IsNamed, begins_at_root, has_nul, is_empty, is_idle, is_parent, parts_of}
 use Rattle.path_text.specs.Target.{IsTarget, IsTargetFault, has_bad_part, has_control, is_bad_part, target_fault, target_of}
 use Rattle.path_text.specs.declared.relative.RelFault.{RelFault}

@@ -1,4 +1,3 @@
 pub mod FileName
-pub mod First
 pub mod Path
 pub mod Target

@@ -2,7 +2,7 @@
 use Rattle.std.specs.Prelude.{ℕ, List, [], ◌∷◌, ◌++◌, ◌-◌, Bool, true, false, cond, not, ◌≡◌, ◌==◌, ◌||◌, length, take, fold, slice_index_or, codes, All, IsUtf8, Contains, Option, Result, Err}
 use Rattle.std.specs.List.{slice_split, join_with_byte, list_any}
 use Rattle.std.specs.Str.{bytes_eq, is_utf8}
-use Rattle.path_text.specs.First.{fault_where, first_fault, value_unless}
+use Rattle.answers.specs.First.{first_some, some_where, value_unless}
 use Rattle.path_text.specs.declared.absolute.PathFault.{PathFault}
 use Rattle.path_text.specs.declared.absolute.PathFault.TheVariants.{Empty, Relative, HasNul, NotText, NoMemory}
 
@@ -83,11 +83,11 @@ has_nul text = list_any (λ c. c == 0) text
 
 -- the first fault of a path
 unfoldable pub path_fault : List ℕ → Option PathFault
-path_fault text = first_fault (
-    fault_where (is_empty text) Empty ∷
-    fault_where (not (begins_at_root text)) Relative ∷
-    fault_where (has_nul text) HasNul ∷
-    fault_where (not (is_utf8 text)) NotText ∷ [])
+path_fault text = first_some (
+    some_where (is_empty text) Empty ∷
+    some_where (not (begins_at_root text)) Relative ∷
+    some_where (has_nul text) HasNul ∷
+    some_where (not (is_utf8 text)) NotText ∷ [])
 
 -- the first fault of the text, or else its normal form
 abbrev pub path_of : List ℕ → Result (List ℕ) PathFault

@@ -2,7 +2,7 @@
 use Rattle.std.specs.Prelude.{ℕ, List, [], ◌∷◌, ◌≤◌, ◌≡◌, Bool, true, ◌||◌, nat_lt, not, All, Any, Contains, IsUtf8, Option, Result, Err}
 use Rattle.std.specs.List.{list_any}
 use Rattle.std.specs.Str.{is_utf8}
-use Rattle.path_text.specs.First.{fault_where, first_fault, value_unless}
+use Rattle.answers.specs.First.{first_some, some_where, value_unless}
 use Rattle.path_text.specs.Path.{parts_of, IsNamed, is_idle, is_parent, is_empty, begins_at_root, has_nul}
 use Rattle.path_text.specs.declared.relative.RelFault.{RelFault}
 use Rattle.path_text.specs.declared.relative.RelFault.TheVariants.{Empty, Absolute, HasNul, NotText, BadPart, NoMemory}
@@ -25,12 +25,12 @@ has_bad_part text = list_any is_bad_part (parts_of text)
 
 -- the first fault of a target
 unfoldable pub target_fault : List ℕ → Option RelFault
-target_fault text = first_fault (
-    fault_where (is_empty text) Empty ∷
-    fault_where (begins_at_root text) Absolute ∷
-    fault_where (has_nul text) HasNul ∷
-    fault_where (not (is_utf8 text)) NotText ∷
-    fault_where (has_bad_part text) BadPart ∷ [])
+target_fault text = first_some (
+    some_where (is_empty text) Empty ∷
+    some_where (begins_at_root text) Absolute ∷
+    some_where (has_nul text) HasNul ∷
+    some_where (not (is_utf8 text)) NotText ∷
+    some_where (has_bad_part text) BadPart ∷ [])
 
 -- the first fault of the text, or else the text
 abbrev pub target_of : List ℕ → Result (List ℕ) RelFault

@@ -5,7 +5,8 @@ use Rattle.std.specs.List.{range_with_len}
 use Rattle.std.proofs.lemmas.Bool.Decides.{nat_tests}
 use Rattle.std.proofs.lemmas.List.{drop-drop, drop-take}
 use Rattle.byteorder.specs.Numbers.{little_from-take}
-use Rattle.byte_view.specs.Checks.{flaw, flaw_where}
+use Rattle.answers.specs.First.{some_where}
+use Rattle.byte_view.specs.Checks.{flaw}
 use Rattle.std.proofs.lemmas.List.FromFn.{length-map-range_with_len}
 use Rattle.byte_view.specs.HeaderFlaws.{header_flaw, ident_flaw, not_elf, segment_flaw, short_header, too_big, word_flaw, wrong_class, wrong_ident_version, wrong_order, wrong_version}
 use Rattle.byte_view.specs.Headers.{headers}
@@ -69,7 +70,7 @@ file_limit segments file r =
     let big = none_first (too_big file) (not_elf file ∷ short_header file ∷ wrong_class file ∷ wrong_order file ∷ wrong_ident_version file ∷ wrong_version file ∷ []) ident.0 in
     go (nat_lt LONGEST_FILE (length file)) refl big.0
   where
-    go : (b : Bool) → nat_lt LONGEST_FILE (length file) ≡ b → flaw_where b (flaw TOO_BIG (length file) 0) ≡ None → length file ≤ LONGEST_FILE
+    go : (b : Bool) → nat_lt LONGEST_FILE (length file) ≡ b → some_where b (flaw TOO_BIG (length file) 0) ≡ None → length file ≤ LONGEST_FILE
     go true h e = absurd (cc)
     go false h e = grind (arith, nat_tests)
 
@@ -82,7 +83,7 @@ header_there segments file r =
     let short = none_first (short_header file) (wrong_class file ∷ wrong_order file ∷ wrong_ident_version file ∷ wrong_version file ∷ []) elf.1 in
     go (nat_lt (length file) 64) refl short.0
   where
-    go : (b : Bool) → nat_lt (length file) 64 ≡ b → flaw_where b (flaw SHORT 64 (length file)) ≡ None → 64 ≤ length file
+    go : (b : Bool) → nat_lt (length file) 64 ≡ b → some_where b (flaw SHORT 64 (length file)) ≡ None → 64 ≤ length file
     go true h e = absurd (cc)
     go false h e = grind (arith, nat_tests)
 

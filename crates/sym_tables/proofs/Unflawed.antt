@@ -3,7 +3,8 @@ use Rattle.std.proofs.Common.{◌≡◌, ◌≢◌, ℕ, zero, suc, ◌+◌, ◌
 use Rattle.std.specs.Prelude.{nat_lt, slice_get, slice_index}
 use Rattle.std.specs.List.{find, list_any, range_with_len}
 use Rattle.std.proofs.lemmas.Bool.Decides.{nat_tests}
-use Rattle.byte_view.specs.Checks.{flaw, flaw_at, flaw_where}
+use Rattle.answers.specs.First.{some_where}
+use Rattle.byte_view.specs.Checks.{flaw, flaw_at}
 use Rattle.byte_view.specs.Dynamic.{dynamic_entries, strings_size}
 use Rattle.byte_view.specs.Headers.{headers}
 use Rattle.byte_view.proofs.Loads.{none_first}
@@ -31,7 +32,7 @@ has_none file e =
     let list = none_first (list_flaw file (headers file) (dynamic_entries file) (symbols_by file (headers file) (dynamic_entries file))) [] range.1 in
     record { count = count.0; list = list.0 }
 
-no_flaw : (b : Bool) (code a c : ℕ) → flaw_where b (flaw code a c) ≡ None → b ≡ false
+no_flaw : (b : Bool) (code a c : ℕ) → some_where b (flaw code a c) ≡ None → b ≡ false
 no_flaw true code a c e = absurd (cc)
 no_flaw false code a c e = refl
 

@@ -1,7 +1,7 @@
 -- The parts of what was read are those of the file.
 use Rattle.std.proofs.Common.{◌≡◌, ℕ, ◌+◌, ◌*◌, ◌≤◌, Bool, true, false, ◌&&◌, List, Option, Some, None, length, refl, sym, ap, ◌∙◌, arith}
 use Rattle.std.specs.Prelude.{nat_le, Result, Ok, Err, IfOk}
-use Rattle.byte_view.specs.Checks.{TellsBy}
+use Rattle.answers.specs.Answers.{TellsBy}
 use Rattle.byte_view.specs.Memory.{memory_bytes}
 use Rattle.load_model.specs.SymbolTable.{symbol_of, symbols_at, symbols_in}
 use Rattle.sym_tables.specs.Faults.{flaw_of}

@@ -1,7 +1,7 @@
 -- The flaws of the counts, by what each source says
 use Rattle.std.specs.Prelude.{ℕ, Option, [], ◌∷◌}
 use Rattle.std.specs.Option.{unwrap_or}
-use Rattle.byte_view.specs.Checks.{first_some}
+use Rattle.answers.specs.First.{first_some}
 use Rattle.byte_view.specs.declared.flaws.Flaw.{Flaw}
 use Rattle.load_model.specs.SymbolCount.{first_count}
 use Rattle.load_model.specs.SymbolFlaws.{differing_counts, no_count, reach_past}

@@ -1,7 +1,7 @@
 -- Which symbols the hash tables list, from what each says of a symbol
 use Rattle.std.specs.Prelude.{ℕ, ◌≡◌, Bool, false, not, ◌&&◌, List, [], ◌∷◌, Option, Some, None, slice_get, slice_index_or}
 use Rattle.std.specs.Option.{option_map}
-use Rattle.byte_view.specs.Checks.{first_some}
+use Rattle.answers.specs.First.{first_some}
 use Rattle.byte_view.specs.declared.flaws.Flaw.{Flaw}
 use Rattle.byte_view.specs.Dynamic.{dynamic_entries, strings_of}
 use Rattle.byte_view.specs.Headers.{headers}

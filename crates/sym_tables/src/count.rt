@@ -1,7 +1,8 @@
 //! How many symbols a file has.
 
 ghost use Rattle.std.specs.Prelude.{◌≡◌, ◌≤◌, ◌+◌, ◌*◌, length, IfOk, IfSome, Some};
-ghost use Rattle.byte_view.specs.Checks.{TellsBy, flaw};
+ghost use Rattle.answers.specs.Answers.{TellsBy};
+ghost use Rattle.byte_view.specs.Checks.{flaw};
 ghost use Rattle.byte_view.specs.Headers.{e_shnum, e_shoff};
 ghost use Rattle.load_model.specs.SymbolCount.{first_count, has_sections, is_section_of, section_count, section_places};
 ghost use Rattle.load_model.specs.SymbolFlaws.{differing_counts, reach_past};

@@ -2,7 +2,7 @@
 
 ghost use Rattle.std.specs.Prelude.{[], false, true, ◌≡◌, ◌≢◌, ◌≤◌, ◌<◌, ◌+◌, ◌-◌, ◌*◌, ◌^◌, ◌&&◌, ◌||◌, ◌==◌, Some, None, IfOk, IfSome, MatchOption, is_some, length, nat_le, nat_lt, cond, slice_index};
 ghost use Rattle.std.specs.List.{find, list_all, range_with_len};
-ghost use Rattle.byte_view.specs.Checks.{TellsBy};
+ghost use Rattle.answers.specs.Answers.{TellsBy};
 ghost use Rattle.byte_view.specs.Memory.{range_in};
 ghost use Rattle.byte_view.specs.Numbers.{number_at};
 ghost use Rattle.byte_view.specs.Sound.{IsReadFrom};

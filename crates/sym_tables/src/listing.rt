@@ -3,7 +3,7 @@
 ghost use Rattle.std.specs.Prelude.{◌≡◌, false, length, map, slice_get, slice_index_or, IfOk};
 ghost use Rattle.std.specs.List.{find, range_with_len};
 ghost use Rattle.std.specs.Option.{option_map};
-ghost use Rattle.byte_view.specs.Checks.{TellsBy};
+ghost use Rattle.answers.specs.Answers.{TellsBy};
 ghost use Rattle.dyn_table.specs.Table.{IsTableOf};
 ghost use Rattle.load_model.specs.Hashes.{sysv_hash};
 ghost use Rattle.load_model.specs.SymbolFlaws.{broken_hash, is_offerable, name_in};

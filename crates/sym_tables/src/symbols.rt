@@ -2,7 +2,7 @@
 
 ghost use Rattle.std.specs.Prelude.{◌≡◌, ◌≤◌, ◌<◌, ◌^◌, ◌+◌, ◌*◌, length, map, IfOk, nat_le};
 ghost use Rattle.std.specs.List.{position_from, range_with_len};
-ghost use Rattle.byte_view.specs.Checks.{TellsBy};
+ghost use Rattle.answers.specs.Answers.{TellsBy};
 ghost use Rattle.byte_view.specs.Sound.{IsReadFrom};
 ghost use Rattle.load_model.specs.SymbolFlaws.{bad_symbol_name, unbacked_symbols};
 ghost use Rattle.load_model.specs.SymbolTable.{symbol_of, symbols_in};

@@ -4,7 +4,7 @@
 
 ghost use Rattle.std.specs.Prelude.{ℕ, false, slice_index_or, ◌%◌, ◌==◌, ◌&&◌, ◌||◌, map, ◌≡◌, ◌≤◌, ◌<◌, ◌+◌, Some, None, slice_index, length, IfOk, MatchOption};
 ghost use Rattle.std.specs.List.{list_all};
-ghost use Rattle.byte_view.specs.Checks.{TellsBy};
+ghost use Rattle.answers.specs.Answers.{TellsBy};
 ghost use Rattle.byte_view.specs.Sound.{IsReadFrom};
 ghost use Rattle.load_model.specs.SymbolFlaws.{bad_sysv};
 ghost use Rattle.load_model.specs.SysvTable.{ends_in, is_in_chain, is_link, is_sysv_sound, sysv_lists, sysv_place};

@@ -1,7 +1,7 @@
 //! The symbols of a file, once they and the hash tables are known to have no flaw.
 
 ghost use Rattle.std.specs.Prelude.{◌≡◌, IfOk};
-ghost use Rattle.byte_view.specs.Checks.{TellsBy};
+ghost use Rattle.answers.specs.Answers.{TellsBy};
 ghost use Rattle.byte_view.specs.Dynamic.{strings_size};
 ghost use Rattle.byte_view.specs.Sound.{IsReadFrom};
 ghost use Rattle.dyn_table.specs.Table.{IsTableOf};

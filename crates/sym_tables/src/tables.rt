@@ -2,7 +2,7 @@
 
 ghost use Rattle.std.specs.Prelude.{◌≡◌, length, IfOk};
 ghost use Rattle.std.specs.Option.{option_and_then, option_map};
-ghost use Rattle.byte_view.specs.Checks.{TellsBy};
+ghost use Rattle.answers.specs.Answers.{TellsBy};
 ghost use Rattle.byte_view.specs.Sound.{IsReadFrom};
 ghost use Rattle.load_model.specs.SymbolFlaws.{hash_flaw};
 ghost use Rattle.sym_tables.specs.Faults.{flaw_of};

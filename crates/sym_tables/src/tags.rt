@@ -1,7 +1,7 @@
 //! What the dynamic table says of the symbols.
 
 ghost use Rattle.std.specs.Prelude.{◌≡◌};
-ghost use Rattle.byte_view.specs.Checks.{TellsBy};
+ghost use Rattle.answers.specs.Answers.{TellsBy};
 ghost use Rattle.load_model.specs.SymbolFlaws.{wrong_symbol_size};
 ghost use Rattle.load_model.specs.SymbolTable.{symbols_at};
 ghost use Rattle.sym_tables.specs.Faults.{flaw_of};

@@ -1,6 +1,7 @@
 -- A step of the walk through the versions that a need asks of its file.
 use Rattle.std.proofs.Common.{◌≡◌, ℕ, ◌+◌, List, [], ◌∷◌, ◌++◌, Option, refl, ap, sym, subst, ◌∙◌}
-use Rattle.byte_view.specs.Checks.{Names, first_some}
+use Rattle.answers.specs.Answers.{Names}
+use Rattle.answers.specs.First.{first_some}
 use Rattle.byte_view.specs.declared.flaws.Flaw.{Flaw}
 use Rattle.load_model.specs.VersionFlaws.{bad_next, bad_text, bad_vernaux, vernaux_flaw, vernaux_flaw_at, vernauxs_flaw}
 use Rattle.load_model.specs.VersionTables.{vernaux_place, vn_aux, vn_cnt, vna_name, vna_next}

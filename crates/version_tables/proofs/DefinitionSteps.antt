@@ -1,6 +1,7 @@
 -- A step of the walk through the definitions.
 use Rattle.std.proofs.Common.{◌≡◌, ℕ, ◌+◌, List, Option, ap, sym, subst}
-use Rattle.byte_view.specs.Checks.{Names, first_some}
+use Rattle.answers.specs.Answers.{Names}
+use Rattle.answers.specs.First.{first_some}
 use Rattle.byte_view.specs.declared.flaws.Flaw.{Flaw}
 use Rattle.load_model.specs.VersionFlaws.{verdef_flaw, verdef_flaw_at, verdefs_flaw}
 use Rattle.load_model.specs.VersionTables.{vd_next, verdef_count, verdef_place}

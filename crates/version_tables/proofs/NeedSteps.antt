@@ -1,6 +1,7 @@
 -- A step of the walk through the needs.
 use Rattle.std.proofs.Common.{◌≡◌, ℕ, ◌+◌, List, Option, refl, ap, sym, subst}
-use Rattle.byte_view.specs.Checks.{Names, first_some}
+use Rattle.answers.specs.Answers.{Names}
+use Rattle.answers.specs.First.{first_some}
 use Rattle.byte_view.specs.declared.flaws.Flaw.{Flaw}
 use Rattle.load_model.specs.VersionFlaws.{verneed_flaw, verneed_flaw_at, verneeds_flaw}
 use Rattle.load_model.specs.VersionTables.{file_place, verneed_count, verneed_place, vn_next}

@@ -4,7 +4,8 @@ use Rattle.std.specs.Prelude.{is_some, nat_lt, bit_and}
 use Rattle.std.specs.List.{range_with_len}
 use Rattle.std.proofs.lemmas.List.FromFn.{get_or-map-range_with_len, length-map-range_with_len}
 use Rattle.std.proofs.lemmas.Nat.{and_le_r}
-use Rattle.byte_view.specs.Checks.{first_some, flaw, flaw_where}
+use Rattle.answers.specs.First.{first_some, some_where}
+use Rattle.byte_view.specs.Checks.{flaw}
 use Rattle.byte_view.specs.DynamicFlaws.{has_bit}
 use Rattle.byte_view.specs.declared.constants.TheConstants.{VER_NDX_GLOBAL, VERSYM_HIDDEN, VERSYM_VERSION}
 use Rattle.byte_view.specs.declared.flaws.Flaw.{Flaw}
@@ -56,7 +57,7 @@ made_hidden file words count e =
 
 -- a symbol whose index has no name
 unknown_by : ℕ → ℕ → Option ℕ → Option Flaw
-unknown_by symbol index place = flaw_where (nat_lt VER_NDX_GLOBAL index && not (is_some place)) (flaw UNKNOWN_INDEX symbol index)
+unknown_by symbol index place = some_where (nat_lt VER_NDX_GLOBAL index && not (is_some place)) (flaw UNKNOWN_INDEX symbol index)
 
 unknown_same : (file words : List ℕ) (places : List (Option ℕ)) (count i : ℕ) → words ≡ map (symbol_word file) (range_with_len 0 count) → AreFirst 32768 places (indexed_names file) → i < count → unknown_at places words i ≡ symbol_flaw file i
 unfolding unknown_at symbol_flaw unknown_by

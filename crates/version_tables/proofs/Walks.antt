@@ -2,7 +2,8 @@
 use Rattle.std.proofs.Common.{◌≡◌, ℕ, suc, ◌+◌, ◌-◌, ◌<◌, ◌≤◌, List, [], ◌∷◌, ◌++◌, Option, Some, None, map, refl, ap, sym, ◌∙◌, arith, append_assoc}
 use Rattle.std.specs.List.{flat_map, range_with_len}
 use Rattle.std.proofs.lemmas.List.{append-nil}
-use Rattle.byte_view.specs.Checks.{Names, first_some}
+use Rattle.answers.specs.Answers.{Names}
+use Rattle.answers.specs.First.{first_some}
 use Rattle.byte_view.specs.declared.flaws.Flaw.{Flaw}
 use Rattle.version_tables.specs.Walks.{from_on, lists_from}
 

@@ -2,7 +2,8 @@
 use Rattle.std.proofs.Common.{◌≡◌, ℕ, List, [], ◌∷◌, ◌++◌, Option, Some, None, length, map, refl, ap, ◌∙◌}
 use Rattle.std.specs.List.{range_with_len}
 use Rattle.std.proofs.lemmas.List.{length-map}
-use Rattle.byte_view.specs.Checks.{Names, first_some}
+use Rattle.answers.specs.Answers.{Names}
+use Rattle.answers.specs.First.{first_some}
 use Rattle.byte_view.specs.declared.flaws.Flaw.{Flaw}
 use Rattle.load_model.specs.VersionFlaws.{bad_versym, symbols_version_flaw, verdefs_flaw, verneeds_flaw, version_flaw}
 use Rattle.load_model.specs.VersionTables.{indexed_names, text_of, verdef_count, verneed_count}

@@ -1,6 +1,7 @@
 -- The names of version indexes, looked up by index
 use Rattle.std.specs.Prelude.{ℕ, ◌<◌, ◌≡◌, cond, not, ◌&&◌, List, Option, Some, None, is_some, nat_lt, fold, slice_index, slice_index_or, slice_set}
-use Rattle.byte_view.specs.Checks.{flaw, flaw_where}
+use Rattle.answers.specs.First.{some_where}
+use Rattle.byte_view.specs.Checks.{flaw}
 use Rattle.byte_view.specs.declared.constants.TheConstants.{VER_NDX_GLOBAL}
 use Rattle.byte_view.specs.declared.flaws.Flaw.{Flaw}
 use Rattle.byte_view.specs.declared.flaws.TheConstants.{UNKNOWN_INDEX}
@@ -37,7 +38,7 @@ symbol_word file symbol = cond (is_versioned file) (versym_word file symbol) VER
 
 -- 32, by the word of a symbol
 abbrev pub unknown_word : List (Option ℕ) → ℕ → ℕ → Option Flaw
-unknown_word places symbol word = flaw_where (nat_lt VER_NDX_GLOBAL (index_in word) && not (is_some (place_in places (index_in word)))) (flaw UNKNOWN_INDEX symbol (index_in word))
+unknown_word places symbol word = some_where (nat_lt VER_NDX_GLOBAL (index_in word) && not (is_some (place_in places (index_in word)))) (flaw UNKNOWN_INDEX symbol (index_in word))
 
 unfoldable pub unknown_at : List (Option ℕ) → List ℕ → ℕ → Option Flaw
 unknown_at places words symbol = unknown_word places symbol (slice_index words symbol)

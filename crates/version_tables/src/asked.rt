@@ -1,7 +1,8 @@
 //! The versions that a need asks of its file.
 
 ghost use Rattle.std.specs.Prelude.{◌≡◌, ◌≤◌, ◌<◌, ◌+◌, ◌++◌, ◌∷◌, [], IfOk, OnOk};
-ghost use Rattle.byte_view.specs.Checks.{TellsBy, first_some};
+ghost use Rattle.answers.specs.Answers.{TellsBy};
+ghost use Rattle.answers.specs.First.{first_some};
 ghost use Rattle.byte_view.specs.Dynamic.{dynamic_entries, strings_size};
 ghost use Rattle.byte_view.specs.Sound.{IsReadFrom};
 ghost use Rattle.byte_view.specs.declared.constants.TheConstants.{HIGHEST_END};

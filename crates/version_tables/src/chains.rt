@@ -1,7 +1,7 @@
 //! Records that follow one another, each as far behind the one before it as that one says.
 
 ghost use Rattle.std.specs.Prelude.{◌≡◌, ◌<◌, ◌+◌, OnOk};
-ghost use Rattle.byte_view.specs.Checks.{TellsBy};
+ghost use Rattle.answers.specs.Answers.{TellsBy};
 ghost use Rattle.byte_view.specs.declared.constants.TheConstants.{HIGHEST_END};
 ghost use Rattle.load_model.specs.VersionFlaws.{bad_next};
 ghost use Rattle.version_tables.specs.Faults.{flaw_of};

@@ -2,7 +2,7 @@
 
 ghost use Rattle.std.specs.Prelude.{◌≡◌, ◌≤◌, ◌<◌, ◌+◌, IfOk};
 ghost use Rattle.std.specs.Option.{unwrap_or};
-ghost use Rattle.byte_view.specs.Checks.{TellsBy};
+ghost use Rattle.answers.specs.Answers.{TellsBy};
 ghost use Rattle.byte_view.specs.Dynamic.{dynamic_entries, strings_size, value_of};
 ghost use Rattle.byte_view.specs.Sound.{IsReadFrom};
 ghost use Rattle.byte_view.specs.declared.constants.TheConstants.{DT_VERDEF, DT_VERDEFNUM, HIGHEST_END};

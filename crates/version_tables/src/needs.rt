@@ -2,7 +2,8 @@
 
 ghost use Rattle.std.specs.Prelude.{◌≡◌, ◌≤◌, ◌<◌, ◌+◌, ◌++◌, ◌∷◌, [], length, IfOk};
 ghost use Rattle.std.specs.Option.{unwrap_or};
-ghost use Rattle.byte_view.specs.Checks.{TellsBy, first_some};
+ghost use Rattle.answers.specs.Answers.{TellsBy};
+ghost use Rattle.answers.specs.First.{first_some};
 ghost use Rattle.byte_view.specs.Dynamic.{dynamic_entries, strings_size, value_of};
 ghost use Rattle.byte_view.specs.Sound.{IsReadFrom};
 ghost use Rattle.byte_view.specs.declared.constants.TheConstants.{DT_VERNEED, DT_VERNEEDNUM, HIGHEST_END};

@@ -2,7 +2,9 @@
 
 ghost use Rattle.std.specs.Prelude.{◌≡◌, ◌≤◌, ◌+◌, ◌*◌, None, length, map, IfOk};
 ghost use Rattle.std.specs.List.{range_with_len};
-ghost use Rattle.byte_view.specs.Checks.{TellsBy, first_some, flaw, flaw_where};
+ghost use Rattle.answers.specs.Answers.{TellsBy};
+ghost use Rattle.answers.specs.First.{first_some, some_where};
+ghost use Rattle.byte_view.specs.Checks.{flaw};
 ghost use Rattle.byte_view.specs.DynamicFlaws.{has_bit};
 ghost use Rattle.byte_view.specs.Numbers.{number_at};
 ghost use Rattle.byte_view.specs.Sound.{IsReadFrom};
@@ -42,7 +44,7 @@ fn versym_words(
     count: u32,
 ) -> Result<Vec<u16>, VersionFault>
     requires { IsReadFrom elf.now bytes.now }
-    ensures flaw { TellsBy flaw_of result (flaw_where (is_unbacked bytes.now at (2 * count)) (flaw VERSION_RANGE at 0)) }
+    ensures flaw { TellsBy flaw_of result (some_where (is_unbacked bytes.now at (2 * count)) (flaw VERSION_RANGE at 0)) }
     ensures words { IfOk result (λ words. words.items ≡ map (λ i. memory_number 2 bytes.now (at + 2 * i)) (range_with_len 0 count)) }
 {
     let Some(place) = backed(elf, bytes, at, 2 * u64::from(count)) else {

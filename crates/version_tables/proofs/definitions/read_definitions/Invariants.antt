@@ -1,6 +1,6 @@
 -- where the walk is, and what is left of it
 use Rattle.std.proofs.Common.{◌≡◌, ◌<◌, ◌≤◌, ◌++◌}
-use Rattle.byte_view.specs.Checks.{first_some}
+use Rattle.answers.specs.First.{first_some}
 use Rattle.load_model.specs.VersionFlaws.{verdef_flaw, verdefs_flaw}
 use Rattle.load_model.specs.VersionTables.{verdef_count, verdef_place}
 use Rattle.version_tables.specs.Walks.{definition_of, from_on}

@@ -1,6 +1,6 @@
 -- what was read is kept, and what was noted is the names of the file
 use Rattle.std.proofs.Common.{sym, ◌∙◌}
-use Rattle.byte_view.specs.Checks.{Names}
+use Rattle.answers.specs.Answers.{Names}
 use Rattle.load_model.specs.VersionFlaws.{symbols_version_flaw}
 use Rattle.load_model.specs.VersionTables.{indexed_names}
 use Rattle.version_tables.specs.Faults.{flaw_of}

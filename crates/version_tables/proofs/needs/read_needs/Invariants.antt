@@ -1,6 +1,6 @@
 -- where the walk is, and what is left of it
 use Rattle.std.proofs.Common.{◌≡◌, ◌<◌, ◌≤◌, ◌++◌}
-use Rattle.byte_view.specs.Checks.{first_some}
+use Rattle.answers.specs.First.{first_some}
 use Rattle.load_model.specs.VersionFlaws.{verneed_flaw, verneeds_flaw}
 use Rattle.load_model.specs.VersionTables.{verneed_count, verneed_place}
 use Rattle.version_tables.specs.Walks.{asked_of_need, file_word_of, from_on, lists_from}

@@ -1,6 +1,6 @@
 -- each symbol leaves the flaw to those behind it
 use Rattle.std.proofs.Common.{length}
-use Rattle.byte_view.specs.Checks.{first_some}
+use Rattle.answers.specs.First.{first_some}
 use Rattle.version_tables.specs.Faults.{flaw_of}
 use Rattle.version_tables.specs.Indexes.{unknown_at}
 use Rattle.version_tables.specs.Walks.{from_on}

@@ -1,6 +1,6 @@
 -- what is left answers as the whole
 use Rattle.std.proofs.Common.{◌≡◌, length}
-use Rattle.byte_view.specs.Checks.{first_some}
+use Rattle.answers.specs.First.{first_some}
 use Rattle.version_tables.specs.Indexes.{unknown_at}
 use Rattle.version_tables.specs.Walks.{from_on}
 use Rattle.version_tables.proofs.symbols.check_indexes.Given as goal
