@@ -1,5 +1,5 @@
 -- What a loader sees of a file, and the first flaw that keeps it from seeing it (docs/ELF.md)
-use Rattle.std.specs.Prelude.{ℕ, Bool, false, not, ◌==◌, ◌&&◌, ◌||◌, List, [], ◌∷◌, Option, Some, None, map, filter, take, drop}
+use Rattle.std.specs.Prelude.{ℕ, Bool, false, not, ◌==◌, ◌&&◌, ◌||◌, List, [], ◌∷◌, Option, Some, None, Result, Ok, Err, map, filter, take, drop}
 use Rattle.std.specs.List.{before_first, enumerate_from, find}
 use Rattle.std.specs.Option.{option_map}
 use Rattle.std.specs.Str.{is_utf8}
@@ -120,3 +120,11 @@ name_flaw file =
 unfoldable pub first_flaw : List ℕ → Option Flaw
 first_flaw file =
     first_some (header_flaw file ∷ dynamic_flaw file ∷ symbol_flaw file ∷ version_flaw (symbol_count file) file ∷ name_flaw file ∷ [])
+
+-- the face of a file that has no flaw, or its first flaw
+abbrev pub face_unless : Option Flaw → Face → Result Face Flaw
+face_unless None face = Ok face
+face_unless (Some f) face = Err f
+
+unfoldable pub face_or_flaw : List ℕ → Result Face Flaw
+face_or_flaw file = face_unless (first_flaw file) (face_of file)

@@ -15,3 +15,12 @@ pub mod SymbolFlaws
 pub mod VersionTables
 pub mod VersionFlaws
 pub mod Faces
+pub mod Opening
+pub mod RunPaths
+pub mod Candidates
+pub mod Loads
+pub mod Runs
+pub mod Scopes
+pub mod Bindings
+pub mod VersionCheck
+pub mod Replays

@@ -5,13 +5,13 @@
 use Rattle.std.specs.Prelude.{ℕ, zero, suc, List, [], ◌∷◌, ◌++◌, Bool, true, false, cond, ◌≡◌, ◌<◌, Option, Some, None, Result, Ok, Err, length, take, drop, map, max, slice_get, ◌==◌, ◌&&◌, ◌||◌, nat_lt, ◌⊎◌}
 use Rattle.std.specs.List.{list_any}
 use Rattle.std.specs.Str.{bytes_eq}
+use Rattle.load_model.specs.declared.faces.Face.{Face}
 
--- a loaded file
+-- a loaded file: the path under which it was found, which file it is, and what a loader sees of it
 pub record Object : Type 0 where
   pub path : List ℕ
   pub id : List ℕ
-  pub soname : Option (List ℕ)
-  pub needs : List (List ℕ)
+  pub face : Face
 
 -- an object asks for a name
 pub record Request : Type 0 where
@@ -44,7 +44,7 @@ count_after log = count_from 1 log
 -- all needs of the objects, the first of which has this number
 abbrev pub needs_from : ℕ → List Object → List Request
 needs_from i [] = []
-needs_from i (o ∷ os) = map (λ n. record { by = i; name = n }) o.needs ++ needs_from (suc i) os
+needs_from i (o ∷ os) = map (λ n. record { by = i; name = n }) o.face.needs ++ needs_from (suc i) os
 
 -- the requests of a phase: the names that the program opens, and the needs of each object from the i-th on
 abbrev pub requests_of : List (List ℕ) → ℕ → List Object → List Request
@@ -100,7 +100,17 @@ module _ {X : Type 0} (answer : List Object → List Asked → Request → Resul
   IsRunFrom before (opening ∷ openings) after = (mid : Loaded) × IsPhase before opening mid × IsRunFrom mid openings after
 
   abbrev pub IsRun : Object → List (List ℕ) → Loaded → Type 0
-  IsRun program opens after = IsRunFrom (record { objs = program ∷ []; log = [] }) (program.needs ∷ map (λ n. n ∷ []) opens) after
+  IsRun program opens after = IsRunFrom (record { objs = program ∷ []; log = [] }) (program.face.needs ∷ map (λ n. n ∷ []) opens) after
+
+  -- a run with what was loaded and asked at the end of each of its phases: of the start, and of each opened name
+  abbrev pub IsEndedFrom : Loaded → List (List (List ℕ)) → Loaded → List Loaded → Type 0
+  IsEndedFrom before [] after [] = after ≡ before
+  IsEndedFrom before [] after (end ∷ ends) = ⊥
+  IsEndedFrom before (opening ∷ openings) after [] = ⊥
+  IsEndedFrom before (opening ∷ openings) after (end ∷ ends) = IsPhase before opening end × IsEndedFrom end openings after ends
+
+  abbrev pub IsEndedRun : Object → List (List ℕ) → Loaded → List Loaded → Type 0
+  IsEndedRun program opens after ends = IsEndedFrom (record { objs = program ∷ []; log = [] }) (program.face.needs ∷ map (λ n. n ∷ []) opens) after ends
 
   -- a run that stops in one of its phases, where the ones before are whole
   abbrev pub IsStopFrom : Loaded → List (List (List ℕ)) → X → Type 0
@@ -109,7 +119,7 @@ module _ {X : Type 0} (answer : List Object → List Asked → Request → Resul
       ((at : Loaded) × IsStop before opening at stop) ⊎ ((mid : Loaded) × IsPhase before opening mid × IsStopFrom mid openings stop)
 
   abbrev pub IsStoppedRun : Object → List (List ℕ) → X → Type 0
-  IsStoppedRun program opens stop = IsStopFrom (record { objs = program ∷ []; log = [] }) (program.needs ∷ map (λ n. n ∷ []) opens) stop
+  IsStoppedRun program opens stop = IsStopFrom (record { objs = program ∷ []; log = [] }) (program.face.needs ∷ map (λ n. n ∷ []) opens) stop
 
   -- the same by recursion
   abbrev pub ask : Loaded → Request → Result Loaded X
@@ -121,7 +131,7 @@ module _ {X : Type 0} (answer : List Object → List Asked → Request → Resul
 
   abbrev pub ask_of : Loaded → ℕ → Option Object → Result Loaded X
   ask_of s i None = Ok s
-  ask_of s i (Some o) = ask_all s (map (λ n. record { by = i; name = n }) o.needs)
+  ask_of s i (Some o) = ask_all s (map (λ n. record { by = i; name = n }) o.face.needs)
 
   unfoldable pub walk : ℕ → ℕ → Loaded → Result Loaded X
   walk zero i s = Ok s
@@ -135,7 +145,7 @@ module _ {X : Type 0} (answer : List Object → List Asked → Request → Resul
   run_from limit s (opening ∷ openings) = next (phase limit s opening) (λ t. run_from limit t openings)
 
   abbrev pub run : ℕ → Object → List (List ℕ) → Result Loaded X
-  run limit program opens = run_from limit (record { objs = program ∷ []; log = [] }) (program.needs ∷ map (λ n. n ∷ []) opens)
+  run limit program opens = run_from limit (record { objs = program ∷ []; log = [] }) (program.face.needs ∷ map (λ n. n ∷ []) opens)
 
   -- an answer names an object that is there, and brings none past the limit
   pub record IsSound (limit : ℕ) : Type 0 where
@@ -158,7 +168,7 @@ is_named None n = false
 is_named (Some s) n = bytes_eq s n
 
 abbrev pub is_known : List Asked → List ℕ → ℕ → Object → Bool
-is_known log n j o = list_any (λ a. bytes_eq a.request.name n && (a.target == j)) log || is_named o.soname n
+is_known log n j o = list_any (λ a. bytes_eq a.request.name n && (a.target == j)) log || is_named o.face.soname n
 
 -- the first object from the i-th on that passes
 abbrev pub first_place : (ℕ → Object → Bool) → ℕ → List Object → Option ℕ
@@ -196,12 +206,12 @@ pub record GoesByKey (key : Object → List ℕ) (objs : List Object) (log : Lis
 
 -- what a file of another world has in common with an object: the needs, no other soname than its key, and its key finds it
 pub record IsAlike {X : Type 0} (search : Search X) (before : List Object) (key : List ℕ) (o there : Object) : Type 0 where
-  pub needs : there.needs ≡ o.needs
-  pub soname : (s : List ℕ) → there.soname ≡ Some s → s ≡ key
+  pub needs : there.face.needs ≡ o.face.needs
+  pub soname : (s : List ℕ) → there.face.soname ≡ Some s → s ≡ key
   pub found : (log : List Asked) (r : Request) → r.name ≡ key → search before log r ≡ Ok there
 
 pub record AreAlike {X : Type 0} (search : Search X) (key : Object → List ℕ) (objs objs_there : List Object) : Type 0 where
   pub count : length objs_there ≡ length objs
-  pub program : (o there : Object) → slice_get objs 0 ≡ Some o → slice_get objs_there 0 ≡ Some there → (there.needs ≡ o.needs) × (there.soname ≡ None)
+  pub program : (o there : Object) → slice_get objs 0 ≡ Some o → slice_get objs_there 0 ≡ Some there → (there.face.needs ≡ o.face.needs) × (there.face.soname ≡ None)
   pub others : (j : ℕ) (o there : Object) → 0 < j → slice_get objs j ≡ Some o → slice_get objs_there j ≡ Some there → IsAlike search (take j objs_there) (key o) o there
   pub ids : (i j : ℕ) (x y : Object) → slice_get objs_there i ≡ Some x → slice_get objs_there j ≡ Some y → bytes_eq x.id y.id ≡ true → i ≡ j
