@@ -19,10 +19,11 @@ unfoldable pub loader_in : List Asked → ℕ → ℕ
 loader_in [] j = 0
 loader_in (a ∷ log) j = cond (a.target == j) a.request.by (loader_in log j)
 
--- An object, its loader, that one's loader and so on, up to the program; `most` bounds their number.
-unfoldable pub chain : ℕ → List Asked → ℕ → List ℕ
-chain zero log j = j ∷ []
-chain (suc most) log j = cond (j == 0) (0 ∷ []) (j ∷ chain most log (loader_in log j))
+-- An object, its loader, that one's loader and so on, up to the program. `loader` gives the loader of each, and `most`
+-- bounds their number.
+unfoldable pub chain : ℕ → (ℕ → ℕ) → ℕ → List ℕ
+chain zero loader j = j ∷ []
+chain (suc most) loader j = cond (j == 0) (0 ∷ []) (j ∷ chain most loader (loader j))
 
 -- The items of a run path of an object, where it has one; `$ORIGIN` is the folder of the path under which it was found.
 abbrev pub items_held : Setting → List ℕ → Option (List ℕ) → List Item
@@ -42,21 +43,24 @@ rpath_items setting None = []
 rpath_items setting (Some o) = rpath_by setting o o.face.runpath
 
 -- Where an object without RUNPATH looks first: the RPATH of each object of its chain.
-abbrev pub chain_items : Setting → List Object → List Asked → ℕ → List Item
-chain_items setting objs log j = flat_map (λ k. rpath_items setting (slice_get objs k)) (chain (length objs) log j)
+abbrev pub chain_items : Setting → List Object → (ℕ → ℕ) → ℕ → List Item
+chain_items setting objs loader j = flat_map (λ k. rpath_items setting (slice_get objs k)) (chain (length objs) loader j)
 
 -- An object looks in its RUNPATH, or where it has none in the RPATH along its chain.
-abbrev pub items_by : Setting → List Object → List Asked → ℕ → Object → Option (List ℕ) → List Item
-items_by setting objs log j o None = chain_items setting objs log j
-items_by setting objs log j o (Some runpath) = runpath_items setting o
+abbrev pub items_by : Setting → List Object → (ℕ → ℕ) → ℕ → Object → Option (List ℕ) → List Item
+items_by setting objs loader j o None = chain_items setting objs loader j
+items_by setting objs loader j o (Some runpath) = runpath_items setting o
 
-abbrev pub own_items : Setting → List Object → List Asked → ℕ → Option Object → List Item
-own_items setting objs log j None = []
-own_items setting objs log j (Some o) = items_by setting objs log j o o.face.runpath
+abbrev pub own_items : Setting → List Object → (ℕ → ℕ) → ℕ → Option Object → List Item
+own_items setting objs loader j None = []
+own_items setting objs loader j (Some o) = items_by setting objs loader j o o.face.runpath
 
 -- The items of a search: those of the object that asks, and then the listed directories.
-unfoldable pub search_items : Setting → List Object → List Asked → ℕ → List Item
-search_items setting objs log j = own_items setting objs log j (slice_get objs j) ++ map (λ dir. Folder dir) setting.dirs
+abbrev pub listed_items : Setting → List Item
+listed_items setting = map (λ dir. Folder dir) setting.dirs
+
+unfoldable pub search_items : Setting → List Object → (ℕ → ℕ) → ℕ → List Item
+search_items setting objs loader j = own_items setting objs loader j (slice_get objs j) ++ listed_items setting
 
 -- A candidate is a path, or an item that is refused once the search reaches it.
 pub data Candidate : Type 0 where
@@ -75,9 +79,13 @@ candidate_in name (Unset item) = Refused (TokenUnset item) ∷ []
 candidate_in name (Relative item) = Refused (RelativeItem item) ∷ []
 
 -- A name with a leading slash has the one candidate that it spells.
-unfoldable pub candidates : Setting → List Object → List Asked → Request → List Candidate
-candidates setting objs log r =
-    cond (begins_at_root r.name) (candidate_at (path_of r.name)) (flat_map (candidate_in r.name) (search_items setting objs log r.by))
+unfoldable pub candidates : Setting → List Object → (ℕ → ℕ) → Request → List Candidate
+candidates setting objs loader r =
+    cond (begins_at_root r.name) (candidate_at (path_of r.name)) (flat_map (candidate_in r.name) (search_items setting objs loader r.by))
+
+-- The candidates of a name in the listed directories alone.
+unfoldable pub listed_candidates : Setting → List ℕ → List Candidate
+listed_candidates setting name = flat_map (candidate_in name) (listed_items setting)
 
 -- A name whose text is refused: it holds `$` (36), or a slash (47) and does not begin with one.
 abbrev pub has_dollar : List ℕ → Bool
@@ -116,11 +124,14 @@ module _ (read : List ℕ → Result Face Flaw) (setting : Setting) (world : Wor
   found_or missing None = Err missing
   found_or missing (Some found) = found
 
-  unfoldable pub first_found : LoadRefusal → List Candidate → Result Object LoadRefusal
-  first_found missing cs = found_or missing (first_some (map decision cs))
+  unfoldable pub first_decision : List Candidate → Option (Result Object LoadRefusal)
+  first_decision cs = first_some (map decision cs)
+
+  abbrev pub first_found : LoadRefusal → List Candidate → Result Object LoadRefusal
+  first_found missing cs = found_or missing (first_decision cs)
 
   unfoldable pub path_search : List Object → List Asked → Request → Result Object LoadRefusal
-  path_search objs log r = first_found (MissingLibrary r.name (asker_path objs r)) (candidates setting objs log r)
+  path_search objs log r = first_found (MissingLibrary r.name (asker_path objs r)) (candidates setting objs (loader_in log) r)
 
   -- The paths that a search opens: each candidate of a kind other than Absent, up to the one that decides.
   abbrev pub opened_by : List ℕ → Kind Face Flaw → List (List ℕ) → List (List ℕ)
@@ -138,7 +149,7 @@ module _ (read : List ℕ → Result Face Flaw) (setting : Setting) (world : Wor
   abbrev pub opened_by_name : List Object → List Asked → Request → Option LoadRefusal → Option ℕ → List (List ℕ)
   opened_by_name objs log r (Some refusal) known = []
   opened_by_name objs log r None (Some j) = []
-  opened_by_name objs log r None None = opened_among (candidates setting objs log r)
+  opened_by_name objs log r None None = opened_among (candidates setting objs (loader_in log) r)
 
   unfoldable pub opened_for : List Object → List Asked → Request → List (List ℕ)
   opened_for objs log r = opened_by_name objs log r (refused_text objs r) (first_place (is_known log r.name) 0 objs)

@@ -1,7 +1,7 @@
 -- A load list as the plain type `Run` has it: its objects name their faces by their place in a table.
 use Rattle.std.specs.Prelude.{ℕ, zero, suc, List, [], ◌∷◌, ◌≡◌, ◌<◌, ◌≤◌, ◌^◌, cond, Option, Some, None, All, length, map, nat_lt, slice_get}
 use Rattle.std.specs.List.{flat_map, position_from}
-use Rattle.std.specs.Option.{option_and_then, unwrap_or}
+use Rattle.std.specs.Option.{option_and_then, option_map, unwrap_or}
 use Rattle.std.specs.Str.{bytes_eq}
 use Rattle.load_model.specs.Candidates.{loader_in}
 use Rattle.load_model.specs.LoadList.{Asked, Loaded, Object, up_to, with_numbers}
@@ -12,6 +12,15 @@ use Rattle.load_model.specs.declared.runs.Run.{Run}
 -- The face of the object of this number.
 abbrev pub face_at : List Face → Run → ℕ → Option Face
 face_at faces run j = option_and_then (λ o. slice_get faces o.face) (slice_get run.objs j)
+
+-- These are the objects over a table of faces, with what a loader sees of each.
+pub record AreObjects (faces : List Face) (objs : List Obj) (objects : List Object) : Type 0 where
+  pub count : length objects ≡ length objs
+  pub each : (j : ℕ) (x : Obj) (o : Object) → slice_get objs j ≡ Some x → slice_get objects j ≡ Some o → (o.path ≡ x.path) × (o.id ≡ x.id) × (slice_get faces x.face ≡ Some o.face)
+
+-- The loader of an object of this number.
+abbrev pub loader_by : List Obj → ℕ → ℕ
+loader_by objs j = unwrap_or (option_map (λ x. x.loader) (slice_get objs j)) 0
 
 -- Numbers below a bound.
 abbrev pub AreBelow : ℕ → List ℕ → Type 0
