@@ -12,8 +12,10 @@ use Rattle.load_model.specs.declared.opening.OpenFault.{OpenFault}
 use Rattle.load_model.specs.declared.opening.OpenFault.TheVariants.{Read, Damaged as OpensDamaged, NoMemory}
 use Rattle.load_model.specs.declared.world.WorldFile.{WorldFile}
 
--- What an opener tells: the world that it reads, where it tells it; its machine, its table of faces, its faults so far.
+-- What an opener tells: the world that it reads, where it tells it; its machine, its table of faces, its faults so far;
+-- and the loan through which it reads, a number, so that a lender knows what became of what it lent.
 pub record OpenerView : Type 0 where
+  pub loan : ℕ
   pub told : Option World
   pub machine : ℕ
   pub faces : List Face
@@ -61,8 +63,9 @@ IsOpened before after path (Err (OpensDamaged named flaw)) =
 IsOpened before after path (Err Read) = Rose before.faults after.faults
 IsOpened before after path (Err NoMemory) = Unit {0}
 
--- World and machine stay, the faces stay at their places, and the count of faults does not fall.
+-- World, machine and loan stay, the faces stay at their places, and the count of faults does not fall.
 pub record OnlyGrew (before after : OpenerView) : Type 0 where
+  pub loan : after.loan ≡ before.loan
   pub world : after.told ≡ before.told
   pub machine : after.machine ≡ before.machine
   pub faces : take (length before.faces) after.faces ≡ before.faces
