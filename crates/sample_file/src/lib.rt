@@ -7,11 +7,19 @@ ghost use Rattle.std.specs.Prelude.{◌≡◌, ◌+◌, ◌≤◌, length, slice
 
 /// How many bytes the program has.
 pub const PROGRAM_SIZE: usize = 488;
+/// The number of the loaded segment's program header.
+pub const LOAD_NUMBER: u64 = 2;
+/// The number of the dynamic table's program header.
+pub const DYNAMIC_NUMBER: u64 = 3;
 
 /// The file class in `e_ident`.
 pub const CLASS_PLACE: usize = 4;
+/// The byte order in `e_ident`.
+pub const ORDER_PLACE: usize = 5;
 /// The version in `e_ident`.
 pub const VERSION_PLACE: usize = 6;
+/// `e_type`.
+pub const TYPE_PLACE: usize = 16;
 /// `e_machine`.
 pub const MACHINE_PLACE: usize = 18;
 /// `e_phoff`, where the program headers begin.
