@@ -2,3 +2,4 @@ pub mod Found
 pub mod Loads
 pub mod Backed
 pub mod Ranges
+pub mod Naming

@@ -5,26 +5,26 @@ use Rattle.std.specs.Option.{option_map, unwrap_or}
 use Rattle.byteorder.specs.Endian.{little_number}
 use Rattle.byte_view.specs.Headers.{headers, is_dynamic}
 use Rattle.byte_view.specs.Memory.{memory_bytes}
-use Rattle.byte_view.specs.declared.constants.TheConstants.{DT_NULL, DT_STRTAB, DT_STRSZ}
+use Rattle.byte_view.specs.declared.constants.TheConstants.{DT_NULL, DT_STRSZ, DT_STRTAB, DYN_SIZE, D_VAL_AT}
 use Rattle.byte_view.specs.declared.dynamic.Entry.{Entry}
 use Rattle.byte_view.specs.declared.segments.Segment.{Segment}
 
--- the entry in 16 bytes
+-- The entry in these bytes.
 unfoldable pub entry_of : List ℕ → Entry
-entry_of bytes = record { tag = little_number 8 bytes; value = little_number 8 (drop 8 bytes) }
+entry_of bytes = record { tag = little_number 8 bytes; value = little_number 8 (drop D_VAL_AT bytes) }
 
--- how many entries the segment has room for
+-- How many entries the segment has room for.
 abbrev pub capacity_of : Segment → ℕ
-capacity_of s = s.filesz / 16
+capacity_of s = s.filesz / DYN_SIZE
 
--- all entries of the DYNAMIC segment, as memory has them
+-- All entries of the DYNAMIC segment, as memory has them.
 unfoldable pub table_of : List ℕ → List Segment → Segment → List Entry
-table_of file segments s = map (λ i. entry_of (memory_bytes file segments (s.vaddr + 16 * i) 16)) (range_with_len 0 (capacity_of s))
+table_of file segments s = map (λ i. entry_of (memory_bytes file segments (s.vaddr + DYN_SIZE * i) DYN_SIZE)) (range_with_len 0 (capacity_of s))
 
 abbrev pub is_end : Entry → Bool
 is_end e = e.tag == DT_NULL
 
--- the same of the DYNAMIC segment that was found, if any
+-- The same of the DYNAMIC segment that was found, if any.
 abbrev pub table_by : List ℕ → List Segment → Option Segment → List Entry
 table_by file segments None = []
 table_by file segments (Some s) = table_of file segments s
@@ -32,32 +32,32 @@ table_by file segments (Some s) = table_of file segments s
 unfoldable pub dynamic_table : List ℕ → List Entry
 dynamic_table file = table_by file (headers file) (find is_dynamic (headers file))
 
--- the entries before the first DT_NULL
+-- The entries before the first DT_NULL.
 unfoldable pub dynamic_entries : List ℕ → List Entry
 dynamic_entries file = before_first is_end (dynamic_table file)
 
--- how many entries the DYNAMIC segment has room for, the end included
+-- How many entries the DYNAMIC segment has room for, the end included.
 abbrev pub dynamic_capacity : List ℕ → ℕ
 dynamic_capacity file = length (dynamic_table file)
 
--- the value of the first entry with this tag
+-- The value of the first entry with this tag.
 abbrev pub value_of : ℕ → List Entry → Option ℕ
 value_of tag entries = option_map (λ e. e.value) (find (λ e. e.tag == tag) entries)
 
--- where the strings begin in memory, and how many bytes they have
+-- Where the strings begin in memory, and how many bytes they have.
 abbrev pub strings_at : List Entry → ℕ
 strings_at entries = unwrap_or (value_of DT_STRTAB entries) 0
 
 abbrev pub strings_size : List Entry → ℕ
 strings_size entries = unwrap_or (value_of DT_STRSZ entries) 0
 
--- the string table
+-- The string table.
 unfoldable pub strings_of : List ℕ → List Segment → List Entry → List ℕ
 strings_of file segments entries = memory_bytes file segments (strings_at entries) (strings_size entries)
 
 abbrev pub text_in : List ℕ → ℕ → Option (List ℕ)
 text_in strings at = cond (nat_lt at (length strings)) (Some (before_first (λ c. c == 0) (drop at strings))) None
 
--- the bytes from a string place up to the next zero byte
+-- The bytes from a string place up to the next zero byte.
 unfoldable pub string_at : List ℕ → ℕ → Option (List ℕ)
 string_at file at = text_in (strings_of file (headers file) (dynamic_entries file)) at

@@ -7,13 +7,13 @@ use Rattle.byte_view.specs.Checks.{flaw, flaw_at}
 use Rattle.byte_view.specs.Headers.{headers, is_dynamic}
 use Rattle.byte_view.specs.Memory.{memory_in, range_in}
 use Rattle.byte_view.specs.Dynamic.{dynamic_table, is_end, strings_at, strings_size}
-use Rattle.byte_view.specs.declared.constants.TheConstants.{DT_NEEDED, DT_HASH, DT_STRTAB, DT_SYMTAB, DT_STRSZ, DT_SYMENT, DT_SONAME, DT_RPATH, DT_SYMBOLIC, DT_RUNPATH, DT_FLAGS, DT_GNU_HASH, DT_VERSYM, DT_FLAGS_1, DT_VERDEF, DT_VERDEFNUM, DT_VERNEED, DT_VERNEEDNUM, DT_DEPAUDIT, DT_AUDIT, DT_AUXILIARY, DT_FILTER, DF_1_INTERPOSE, DF_1_NODEFLIB}
+use Rattle.byte_view.specs.declared.constants.TheConstants.{DT_NEEDED, DT_HASH, DT_STRTAB, DT_SYMTAB, DT_STRSZ, DT_SYMENT, DT_SONAME, DT_RPATH, DT_SYMBOLIC, DT_RUNPATH, DT_FLAGS, DT_GNU_HASH, DT_VERSYM, DT_FLAGS_1, DT_VERDEF, DT_VERDEFNUM, DT_VERNEED, DT_VERNEEDNUM, DT_DEPAUDIT, DT_AUDIT, DT_AUXILIARY, DT_FILTER, DYN_SIZE, DF_1_INTERPOSE, DF_1_NODEFLIB}
 use Rattle.byte_view.specs.declared.dynamic.Entry.{Entry}
 use Rattle.byte_view.specs.declared.flaws.Flaw.{Flaw}
 use Rattle.byte_view.specs.declared.flaws.TheConstants.{DYNAMIC_PLACE, MISSING_TAG, NO_DYNAMIC, NO_END, REPEATED, STRINGS_END, STRINGS_RANGE, STRING_PLACE, TAG_REFUSED, TWO_DYNAMIC}
 use Rattle.byte_view.specs.declared.segments.Segment.{Segment}
 
--- 14, TwoDynamic: the second DYNAMIC
+-- TwoDynamic: the second DYNAMIC.
 abbrev pub place_after : (Segment → Bool) → List Segment → ℕ → Option ℕ
 place_after test segments i = option_map (λ j. i + 1 + j) (position_from test 0 (drop (i + 1) segments))
 
@@ -27,15 +27,15 @@ abbrev pub begins_at : ℕ → Option (ℕ × ℕ) → Bool
 begins_at place None = false
 begins_at place (Some range) = range.0 == place
 
--- 15, DynamicPlace: no room for an entry, or memory does not have it from the file, at the header's offset
+-- DynamicPlace: there is no room for an entry, or memory does not have the table from the file at the header's offset.
 abbrev pub misplaced : List Segment → Segment → Option Flaw
-misplaced segments s = some_where (nat_lt s.filesz 16 || not (begins_at s.offset (range_in segments s.vaddr s.filesz))) (flaw DYNAMIC_PLACE 0 0)
+misplaced segments s = some_where (nat_lt s.filesz DYN_SIZE || not (begins_at s.offset (range_in segments s.vaddr s.filesz))) (flaw DYNAMIC_PLACE 0 0)
 
--- 16, NoEnd: no DT_NULL
+-- NoEnd: there is no DT_NULL.
 abbrev pub no_end : List Entry → Option Flaw
 no_end table = some_where (not (list_any is_end table)) (flaw NO_END 0 0)
 
--- 17, TagRefused: what would change how libraries are found or bound, in ways that are not modelled
+-- TagRefused: an entry would change how libraries are found or bound, in ways that are not modelled.
 abbrev pub has_bit : ℕ → ℕ → Bool
 has_bit bit value = not (bit_and value bit == 0)
 
@@ -44,7 +44,7 @@ is_refused e =
     (e.tag == DT_DEPAUDIT) || (e.tag == DT_AUDIT) || (e.tag == DT_AUXILIARY) || (e.tag == DT_FILTER)
     || ((e.tag == DT_FLAGS_1) && (has_bit DF_1_INTERPOSE e.value || has_bit DF_1_NODEFLIB e.value))
 
--- the tags that stand at most once
+-- The tags that stand at most once.
 abbrev pub is_single : ℕ → Bool
 is_single tag =
     list_any (λ t. t == tag) (DT_HASH ∷ DT_STRTAB ∷ DT_SYMTAB ∷ DT_STRSZ ∷ DT_SYMENT ∷ DT_SONAME ∷ DT_RPATH ∷ DT_SYMBOLIC ∷ DT_RUNPATH ∷ DT_FLAGS ∷ DT_GNU_HASH ∷ DT_VERSYM ∷ DT_FLAGS_1 ∷ DT_VERDEF ∷ DT_VERDEFNUM ∷ DT_VERNEED ∷ DT_VERNEEDNUM ∷ [])
@@ -52,50 +52,50 @@ is_single tag =
 abbrev pub has_tag : ℕ → List Entry → Bool
 has_tag tag entries = list_any (λ e. e.tag == tag) entries
 
--- 18, Repeated: such a tag stood among the entries before
+-- Repeated: such a tag stood among the entries before.
 abbrev pub is_repeated : List Entry → Entry → Bool
 is_repeated before e = is_single e.tag && has_tag e.tag before
 
--- 17 and 18, entry by entry
+-- TagRefused and Repeated, entry by entry.
 unfoldable pub entry_flaw : List Entry → List Entry → Option Flaw
 entry_flaw before [] = None
 entry_flaw before (e ∷ rest) =
     first_some (some_where (is_refused e) (flaw TAG_REFUSED e.tag 0) ∷ some_where (is_repeated before e) (flaw REPEATED e.tag 0) ∷ entry_flaw (before ++ e ∷ []) rest ∷ [])
 
--- 19, MissingTag: a tag that each table has, or that another tag asks for
-abbrev pub missing : ℕ → List Entry → Option Flaw
-missing tag entries = some_where (not (has_tag tag entries)) (flaw MISSING_TAG tag 0)
+-- MissingTag: a tag that each table has, or that another tag asks for, is not there.
+abbrev pub missing_tag : ℕ → List Entry → Option Flaw
+missing_tag tag entries = some_where (not (has_tag tag entries)) (flaw MISSING_TAG tag 0)
 
 abbrev pub missing_beside : ℕ → ℕ → List Entry → Option Flaw
 missing_beside tag wanted entries = some_where (has_tag tag entries && not (has_tag wanted entries)) (flaw MISSING_TAG wanted 0)
 
 unfoldable pub missing_flaw : List Entry → Option Flaw
 missing_flaw entries =
-    first_some (missing DT_STRTAB entries ∷ missing DT_SYMTAB entries ∷ missing DT_STRSZ entries ∷ missing DT_SYMENT entries ∷ missing_beside DT_VERDEF DT_VERDEFNUM entries ∷ missing_beside DT_VERNEED DT_VERNEEDNUM entries ∷ [])
+    first_some (missing_tag DT_STRTAB entries ∷ missing_tag DT_SYMTAB entries ∷ missing_tag DT_STRSZ entries ∷ missing_tag DT_SYMENT entries ∷ missing_beside DT_VERDEF DT_VERDEFNUM entries ∷ missing_beside DT_VERNEED DT_VERNEEDNUM entries ∷ [])
 
--- 20, StringsRange: no string table, or memory does not have it from the file
+-- StringsRange: the string table is empty, or memory does not have it from the file.
 abbrev pub no_strings : List Segment → List Entry → Option Flaw
 no_strings segments entries =
     some_where ((strings_size entries == 0) || not (is_some (range_in segments (strings_at entries) (strings_size entries)))) (flaw STRINGS_RANGE 0 0)
 
-abbrev pub is_zero : Option ℕ → Bool
-is_zero None = false
-is_zero (Some c) = c == 0
+abbrev pub is_zero_byte : Option ℕ → Bool
+is_zero_byte None = false
+is_zero_byte (Some c) = c == 0
 
--- 21, StringsEnd: the last byte of the string table is not zero
+-- StringsEnd: the last byte of the string table is not zero.
 abbrev pub unended_strings : List ℕ → List Segment → List Entry → Option Flaw
 unended_strings file segments entries =
-    some_where (not (is_zero (memory_in file segments (strings_at entries + (strings_size entries - 1))))) (flaw STRINGS_END 0 0)
+    some_where (not (is_zero_byte (memory_in file segments (strings_at entries + (strings_size entries - 1))))) (flaw STRINGS_END 0 0)
 
--- 22, StringPlace: a name that lies past the string table, the first such entry
+-- StringPlace: the first name that lies past the string table.
 abbrev pub is_name : Entry → Bool
 is_name e = (e.tag == DT_NEEDED) || (e.tag == DT_SONAME) || (e.tag == DT_RPATH) || (e.tag == DT_RUNPATH)
 
-abbrev pub bad_place : List Entry → Option ℕ
-bad_place entries = option_map (λ e. e.value) (find (λ e. is_name e && nat_le (strings_size entries) e.value) entries)
+abbrev pub place_past_strings : List Entry → Option ℕ
+place_past_strings entries = option_map (λ e. e.value) (find (λ e. is_name e && nat_le (strings_size entries) e.value) entries)
 
 abbrev pub bad_name : List Entry → Option Flaw
-bad_name entries = flaw_at STRING_PLACE (bad_place entries)
+bad_name entries = flaw_at STRING_PLACE (place_past_strings entries)
 
 unfoldable pub place_flaw : List Segment → Segment → Option Flaw
 place_flaw segments s = first_some (two_dynamic segments ∷ misplaced segments s ∷ [])
@@ -110,12 +110,12 @@ unfoldable pub table_flaw : List ℕ → List Segment → List Entry → Option 
 table_flaw file segments table =
     first_some (no_end table ∷ tags_flaw (before_first is_end table) ∷ strings_flaw file segments (before_first is_end table) ∷ [])
 
--- 13, NoDynamic: no DYNAMIC
+-- NoDynamic: there is no DYNAMIC.
 abbrev pub segment_flaw_by : List Segment → Option Segment → Option Flaw
 segment_flaw_by segments None = Some (flaw NO_DYNAMIC 0 0)
 segment_flaw_by segments (Some s) = place_flaw segments s
 
--- the first flaw of the dynamic table of a file whose headers have none
+-- The first flaw of the dynamic table of a file whose headers have none.
 unfoldable pub dynamic_flaw : List ℕ → Option Flaw
 dynamic_flaw file =
     first_some (segment_flaw_by (headers file) (find is_dynamic (headers file)) ∷ table_flaw file (headers file) (dynamic_table file) ∷ [])

@@ -2,10 +2,10 @@
 use Rattle.std.specs.Prelude.{ℕ, ◌+◌, ◌*◌, Bool, ◌==◌, List, map, slice_index}
 use Rattle.std.specs.List.{range_with_len}
 use Rattle.byte_view.specs.Numbers.{number_at}
-use Rattle.byte_view.specs.declared.constants.TheConstants.{EI_CLASS, EI_DATA, EI_VERSION, PT_LOAD, PT_DYNAMIC, PT_INTERP}
+use Rattle.byte_view.specs.declared.constants.TheConstants.{EI_CLASS, EI_DATA, EI_VERSION, E_EHSIZE_AT, E_ENTRY_AT, E_FLAGS_AT, E_MACHINE_AT, E_PHENTSIZE_AT, E_PHNUM_AT, E_PHOFF_AT, E_SHENTSIZE_AT, E_SHNUM_AT, E_SHOFF_AT, E_SHSTRNDX_AT, E_TYPE_AT, E_VERSION_AT, PHDR_SIZE, PT_DYNAMIC, PT_INTERP, PT_LOAD, P_ALIGN_AT, P_FILESZ_AT, P_FLAGS_AT, P_MEMSZ_AT, P_OFFSET_AT, P_PADDR_AT, P_VADDR_AT}
 use Rattle.byte_view.specs.declared.segments.Segment.{Segment}
 
--- the fields of the ELF header, which has 64 bytes; e_ident has the first 16
+-- The fields of the ELF header; e_ident is its first part.
 abbrev pub ei_class : List ℕ → ℕ
 ei_class file = slice_index file EI_CLASS
 
@@ -16,62 +16,62 @@ abbrev pub ei_version : List ℕ → ℕ
 ei_version file = slice_index file EI_VERSION
 
 abbrev pub e_type : List ℕ → ℕ
-e_type file = number_at 2 file 16
+e_type file = number_at 2 file E_TYPE_AT
 
 abbrev pub e_machine : List ℕ → ℕ
-e_machine file = number_at 2 file 18
+e_machine file = number_at 2 file E_MACHINE_AT
 
 abbrev pub e_version : List ℕ → ℕ
-e_version file = number_at 4 file 20
+e_version file = number_at 4 file E_VERSION_AT
 
 abbrev pub e_entry : List ℕ → ℕ
-e_entry file = number_at 8 file 24
+e_entry file = number_at 8 file E_ENTRY_AT
 
 abbrev pub e_phoff : List ℕ → ℕ
-e_phoff file = number_at 8 file 32
+e_phoff file = number_at 8 file E_PHOFF_AT
 
 abbrev pub e_shoff : List ℕ → ℕ
-e_shoff file = number_at 8 file 40
+e_shoff file = number_at 8 file E_SHOFF_AT
 
 abbrev pub e_flags : List ℕ → ℕ
-e_flags file = number_at 4 file 48
+e_flags file = number_at 4 file E_FLAGS_AT
 
 abbrev pub e_ehsize : List ℕ → ℕ
-e_ehsize file = number_at 2 file 52
+e_ehsize file = number_at 2 file E_EHSIZE_AT
 
 abbrev pub e_phentsize : List ℕ → ℕ
-e_phentsize file = number_at 2 file 54
+e_phentsize file = number_at 2 file E_PHENTSIZE_AT
 
 abbrev pub e_phnum : List ℕ → ℕ
-e_phnum file = number_at 2 file 56
+e_phnum file = number_at 2 file E_PHNUM_AT
 
 abbrev pub e_shentsize : List ℕ → ℕ
-e_shentsize file = number_at 2 file 58
+e_shentsize file = number_at 2 file E_SHENTSIZE_AT
 
 abbrev pub e_shnum : List ℕ → ℕ
-e_shnum file = number_at 2 file 60
+e_shnum file = number_at 2 file E_SHNUM_AT
 
 abbrev pub e_shstrndx : List ℕ → ℕ
-e_shstrndx file = number_at 2 file 62
+e_shstrndx file = number_at 2 file E_SHSTRNDX_AT
 
--- the program header at a place, which has 56 bytes
+-- The program header at a place.
 unfoldable pub header_at : List ℕ → ℕ → Segment
 header_at file at = record {
   kind = number_at 4 file at;
-  flags = number_at 4 file (at + 4);
-  offset = number_at 8 file (at + 8);
-  vaddr = number_at 8 file (at + 16);
-  paddr = number_at 8 file (at + 24);
-  filesz = number_at 8 file (at + 32);
-  memsz = number_at 8 file (at + 40);
-  align = number_at 8 file (at + 48);
+  flags = number_at 4 file (at + P_FLAGS_AT);
+  offset = number_at 8 file (at + P_OFFSET_AT);
+  vaddr = number_at 8 file (at + P_VADDR_AT);
+  paddr = number_at 8 file (at + P_PADDR_AT);
+  filesz = number_at 8 file (at + P_FILESZ_AT);
+  memsz = number_at 8 file (at + P_MEMSZ_AT);
+  align = number_at 8 file (at + P_ALIGN_AT);
 }
 
--- the program headers
+-- The program headers of a file.
 unfoldable pub headers : List ℕ → List Segment
-headers file = map (λ i. header_at file (e_phoff file + 56 * i)) (range_with_len 0 (e_phnum file))
+headers file = map (λ i. header_at file (e_phoff file + PHDR_SIZE * i)) (range_with_len 0 (e_phnum file))
 
--- what a program header describes
+-- What a program header describes.
 abbrev pub is_load : Segment → Bool
 is_load s = s.kind == PT_LOAD
 
@@ -81,7 +81,7 @@ is_dynamic s = s.kind == PT_DYNAMIC
 abbrev pub is_interp : Segment → Bool
 is_interp s = s.kind == PT_INTERP
 
--- where a segment ends in the file, and in memory
+-- Where a segment ends in the file, and in memory.
 abbrev pub file_end : Segment → ℕ
 file_end s = s.offset + s.filesz
 

@@ -6,3 +6,4 @@ pub mod Checks
 pub mod HeaderFlaws
 pub mod Sound
 pub mod DynamicFlaws
+pub mod FlawNames

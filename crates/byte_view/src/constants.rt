@@ -3,6 +3,8 @@
 //! System V gABI, ELF Header, Program Header and Dynamic Section; the GNU extensions to them are in
 //! the Linux Standard Base.
 
+/// The bytes that an ELF file begins with.
+pub const ELFMAG: [u8; 4] = [0x7f, b'E', b'L', b'F'];
 /// The index of the file class in `e_ident`.
 pub const EI_CLASS: usize = 4;
 /// The index of the byte order in `e_ident`.
@@ -19,6 +21,52 @@ pub const EV_CURRENT: u8 = 1;
 pub const EHDR_SIZE: u16 = 64;
 /// The size of a program header.
 pub const PHDR_SIZE: u16 = 56;
+/// The size of an entry of the dynamic table.
+pub const DYN_SIZE: u64 = 16;
+
+/// The place of `e_type` in the ELF header.
+pub const E_TYPE_AT: u64 = 16;
+/// The place of `e_machine` in the ELF header.
+pub const E_MACHINE_AT: u64 = 18;
+/// The place of `e_version` in the ELF header.
+pub const E_VERSION_AT: u64 = 20;
+/// The place of `e_entry` in the ELF header.
+pub const E_ENTRY_AT: u64 = 24;
+/// The place of `e_phoff` in the ELF header.
+pub const E_PHOFF_AT: u64 = 32;
+/// The place of `e_shoff` in the ELF header.
+pub const E_SHOFF_AT: u64 = 40;
+/// The place of `e_flags` in the ELF header.
+pub const E_FLAGS_AT: u64 = 48;
+/// The place of `e_ehsize` in the ELF header.
+pub const E_EHSIZE_AT: u64 = 52;
+/// The place of `e_phentsize` in the ELF header.
+pub const E_PHENTSIZE_AT: u64 = 54;
+/// The place of `e_phnum` in the ELF header.
+pub const E_PHNUM_AT: u64 = 56;
+/// The place of `e_shentsize` in the ELF header.
+pub const E_SHENTSIZE_AT: u64 = 58;
+/// The place of `e_shnum` in the ELF header.
+pub const E_SHNUM_AT: u64 = 60;
+/// The place of `e_shstrndx` in the ELF header.
+pub const E_SHSTRNDX_AT: u64 = 62;
+
+/// The place of `p_flags` in a program header.
+pub const P_FLAGS_AT: u64 = 4;
+/// The place of `p_offset` in a program header.
+pub const P_OFFSET_AT: u64 = 8;
+/// The place of `p_vaddr` in a program header.
+pub const P_VADDR_AT: u64 = 16;
+/// The place of `p_paddr` in a program header.
+pub const P_PADDR_AT: u64 = 24;
+/// The place of `p_filesz` in a program header.
+pub const P_FILESZ_AT: u64 = 32;
+/// The place of `p_memsz` in a program header.
+pub const P_MEMSZ_AT: u64 = 40;
+/// The place of `p_align` in a program header.
+pub const P_ALIGN_AT: u64 = 48;
+/// The place of `d_val` or `d_ptr` in an entry of the dynamic table.
+pub const D_VAL_AT: u64 = 8;
 
 /// A program at fixed addresses.
 pub const ET_EXEC: u16 = 2;
