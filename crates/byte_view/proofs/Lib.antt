@@ -3,3 +3,5 @@ pub mod Loads
 pub mod Backed
 pub mod Ranges
 pub mod Naming
+pub mod LoadPairs
+pub mod TagPlaces

@@ -7,3 +7,5 @@ pub mod HeaderFlaws
 pub mod Sound
 pub mod DynamicFlaws
 pub mod FlawNames
+pub mod LoadPairs
+pub mod TagPlaces

@@ -1,4 +1,4 @@
--- What bounds the next loaded segment from below
+-- What bounds the next loaded segment from below.
 use Rattle.std.specs.Prelude.{ℕ}
 use Rattle.byte_view.specs.Headers.{memory_end}
 use Rattle.byte_view.specs.declared.segments.Segment.{Segment}

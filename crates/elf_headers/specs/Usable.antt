@@ -1,4 +1,4 @@
--- Program headers of some file that is not too long and has no flaw
+-- Program headers of some file that is not too long and has no flaw.
 use Rattle.std.specs.Prelude.{ℕ, ◌≤◌, List}
 use Rattle.byte_view.specs.Sound.{AreSound}
 use Rattle.byte_view.specs.declared.constants.TheConstants.{LONGEST_FILE}

@@ -4,6 +4,9 @@ ghost use Rattle.std.specs.Prelude.{◌≡◌, ◌≤◌, ◌+◌, length};
 ghost use Rattle.byte_view.specs.Headers.{header_at};
 ghost use Rattle.byte_view.specs.Numbers.{number_at};
 
+use byte_view::constants::{
+    P_ALIGN_AT, P_FILESZ_AT, P_FLAGS_AT, P_MEMSZ_AT, P_OFFSET_AT, P_PADDR_AT, P_VADDR_AT, PHDR_SIZE,
+};
 use byte_view::{Segment, u16_at, u32_at, u64_at};
 
 /// The Elf64_Half at a place.
@@ -33,17 +36,17 @@ pub fn xword(bytes: &[u8], at: u64) -> u64
 /// The program header at a place.
 #[tactic(auto, unfolding(byte_view::specs::Headers::header_at))]
 pub(crate) fn segment_at(bytes: &[u8], at: u64) -> Segment
-    requires { at + 56 ≤ length bytes.now }
+    requires { at + PHDR_SIZE ≤ length bytes.now }
     ensures { result ≡ header_at bytes.now at }
 {
     Segment {
         kind: word(bytes, at),
-        flags: word(bytes, at + 4),
-        offset: xword(bytes, at + 8),
-        vaddr: xword(bytes, at + 16),
-        paddr: xword(bytes, at + 24),
-        filesz: xword(bytes, at + 32),
-        memsz: xword(bytes, at + 40),
-        align: xword(bytes, at + 48),
+        flags: word(bytes, at + P_FLAGS_AT),
+        offset: xword(bytes, at + P_OFFSET_AT),
+        vaddr: xword(bytes, at + P_VADDR_AT),
+        paddr: xword(bytes, at + P_PADDR_AT),
+        filesz: xword(bytes, at + P_FILESZ_AT),
+        memsz: xword(bytes, at + P_MEMSZ_AT),
+        align: xword(bytes, at + P_ALIGN_AT),
     }
 }

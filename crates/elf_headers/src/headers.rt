@@ -6,7 +6,7 @@ ghost use Rattle.answers.specs.Answers.{TellsBy};
 ghost use Rattle.byte_view.specs.HeaderFlaws.{header_flaw};
 ghost use Rattle.byte_view.specs.Headers.{file_end, headers};
 ghost use Rattle.byte_view.specs.Memory.{backs, byte_of, file_range, holds, memory_at, memory_in, range_in, the_only};
-ghost use Rattle.elf_headers.specs.Faults.{flaw_of};
+ghost use Rattle.elf_headers.specs.Faults.{elf_fault_flaw};
 
 use crate::faults::ElfFault;
 use crate::ident::{check_ident, check_words};
@@ -40,7 +40,7 @@ impl Elf {
     /// Answers the first flaw of the headers, in the order of `docs/ELF.md`, or `NoMemory`.
     #[tactic(auto, unfolding(byte_view::specs::HeaderFlaws::header_flaw), using(crate::proofs::Usable::usable_segments))]
     pub fn read(alloc: Global, bytes: &[u8]) -> Result<Elf, ElfFault>
-        ensures flaw { TellsBy flaw_of result (header_flaw bytes.now) }
+        ensures flaw { TellsBy elf_fault_flaw result (header_flaw bytes.now) }
         ensures segments { IfOk result (λ elf. elf ≡ headers bytes.now) }
     {
         check_ident(bytes)?;
@@ -131,7 +131,7 @@ fn file_range(addr: u64, len: u64, s: &Segment) -> (usize, usize)
     (from, from + len as usize)
 }
 
-/// Is the address one of the segment's in memory?
+/// Whether the address is one of the segment's in memory.
 fn holds(addr: u64, s: &Segment) -> bool
     ensures { result ≡ holds addr s.now }
 {
@@ -151,7 +151,7 @@ fn byte_of(bytes: &[u8], addr: u64, s: &Segment) -> Option<u8>
     }
 }
 
-/// Are these addresses all within the segment's file size?
+/// Whether these addresses are all within the segment's file size.
 fn backs(addr: u64, len: u64, s: &Segment) -> bool
     ensures { result ≡ backs addr len s.now }
 {

@@ -16,4 +16,4 @@ pub use byte_view::Segment;
 pub use faults::ElfFault;
 pub use fields::{half, word, xword};
 pub use headers::Elf;
-pub use laws::{at_most_one_load_holds, loads_are_apart};
+pub use laws::{at_most_one_load_holds, first_below_is_named, loads_are_apart};

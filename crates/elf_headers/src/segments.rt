@@ -6,36 +6,40 @@ ghost use Rattle.answers.specs.Answers.{TellsBy};
 ghost use Rattle.byte_view.specs.HeaderFlaws.{first_below, has_bad_range, headers_end, is_alignment, is_cut, is_unmappable, segment_flaw};
 ghost use Rattle.byte_view.specs.Headers.{headers, is_dynamic, is_interp, is_load};
 ghost use Rattle.elf_headers.specs.Bounds.{bound_by};
-ghost use Rattle.elf_headers.specs.Faults.{flaw_of};
+ghost use Rattle.elf_headers.specs.Faults.{elf_fault_flaw};
 
 use crate::faults::{ElfFault, flawed};
 use crate::fields::{half, segment_at, xword};
 use byte_view::Segment;
-use byte_view::constants::{HIGHEST_END, LEAST_ALIGN, PT_DYNAMIC, PT_INTERP, PT_LOAD};
+use byte_view::constants::{
+    E_PHNUM_AT, E_PHOFF_AT, EHDR_SIZE, HIGHEST_END, LEAST_ALIGN, PHDR_SIZE, PT_DYNAMIC, PT_INTERP,
+    PT_LOAD,
+};
 use byte_view::flaws::{NO_LOAD, SEGMENT_ORDER, SEGMENT_OVERLAP, SEGMENT_RANGE};
 use std::alloc::{AllocError, Global};
 
 /// The program headers, in order.
 #[tactic(auto, unfolding(byte_view::specs::Headers::headers))]
 pub(crate) fn read_segments(alloc: Global, bytes: &[u8]) -> Result<Vec<Segment>, AllocError>
-    requires header { 64 ≤ length bytes.now }
+    requires header { EHDR_SIZE ≤ length bytes.now }
     requires headers { headers_end bytes.now ≤ length bytes.now }
     ensures { IfOk result (λ segments. segments.items ≡ headers bytes.now) }
 {
-    let from = xword(bytes, 32);
-    let count = u64::from(half(bytes, 56));
+    let from = xword(bytes, E_PHOFF_AT);
+    let count = u64::from(half(bytes, E_PHNUM_AT));
     (0..count)
-        .map(|i| segment_at(bytes, from + 56 * i))
+        .map(|i| segment_at(bytes, from + u64::from(PHDR_SIZE) * i))
         .collect(alloc)
 }
 
+/// Whether it is a part of the file that is loaded.
 pub(crate) fn is_load(s: &Segment) -> bool
     ensures { result ≡ is_load s.now }
 {
     s.kind == PT_LOAD
 }
 
-/// Does it have bytes that are read from the file, past the file's end?
+/// Whether it has bytes that are read from the file, past the file's end.
 fn is_cut(len: u64, s: &Segment) -> bool
     ensures { result ≡ is_cut len s.now }
 {
@@ -43,13 +47,14 @@ fn is_cut(len: u64, s: &Segment) -> bool
     is_read && u128::from(s.offset) + u128::from(s.filesz) > u128::from(len)
 }
 
+/// Whether it is an alignment of a loaded segment.
 fn is_alignment(n: u64) -> bool
     ensures { result ≡ is_alignment n }
 {
     n >= LEAST_ALIGN && n.is_power_of_two()
 }
 
-/// Is there no way to map it?
+/// Whether there is no way to map it.
 fn is_unmappable(s: &Segment) -> bool
     ensures { result ≡ is_unmappable s.now }
 {
@@ -59,6 +64,7 @@ fn is_unmappable(s: &Segment) -> bool
     !is_alignment(s.align) || s.vaddr % s.align != s.offset % s.align
 }
 
+/// Whether it goes past the end of a file of this length, or can't be mapped.
 fn has_bad_range(len: u64, s: &Segment) -> bool
     ensures { result ≡ has_bad_range len s.now }
 {
@@ -109,16 +115,17 @@ fn first_bad_range(len: u64, segments: &[Segment]) -> Option<usize>
     segments.iter().position(|s| has_bad_range(len, s))
 }
 
+/// Whether anything is loaded.
 fn has_load(segments: &[Segment]) -> bool
     ensures { result ≡ list_any is_load segments.now }
 {
     segments.iter().any(|s| is_load(s))
 }
 
-/// Can the segments be loaded from a file of this length, one above the other?
+/// Whether the segments can be loaded from a file of this length, one above the other.
 #[tactic(auto, unfolding(byte_view::specs::HeaderFlaws::segment_flaw))]
 pub(crate) fn check_segments(len: u64, segments: &[Segment]) -> Result<(), ElfFault>
-    ensures { TellsBy flaw_of result (segment_flaw len segments.now) }
+    ensures { TellsBy elf_fault_flaw result (segment_flaw len segments.now) }
 {
     if let Some(i) = first_bad_range(len, segments) {
         return Err(flawed(SEGMENT_RANGE, i as u64));
