@@ -1,5 +1,5 @@
 -- Absolute paths: their parts, their normal form, and what reading one gives.
-use Rattle.std.specs.Prelude.{ℕ, List, [], ◌∷◌, ◌++◌, ◌-◌, Bool, true, false, cond, not, ◌≡◌, ◌==◌, ◌||◌, length, take, fold, slice_index_or, codes, All, IsUtf8, Contains, Option, Result, Err}
+use Rattle.std.specs.Prelude.{ℕ, List, [], ◌∷◌, ◌++◌, ◌-◌, Bool, true, false, cond, not, ◌≡◌, ◌==◌, ◌||◌, length, take, fold, slice_index_or, codes, All, IsUtf8, Contains, Option, None, Some, Result}
 use Rattle.std.specs.List.{slice_split, join_with_byte, list_any}
 use Rattle.std.specs.Str.{bytes_eq, is_utf8}
 use Rattle.answers.specs.First.{first_some, some_where, value_unless}
@@ -93,10 +93,10 @@ path_fault text = first_some (
 abbrev pub path_of : List ℕ → Result (List ℕ) PathFault
 path_of text = value_unless (path_fault text) (normal_path text)
 
--- the answer is the wanted one, unless memory was refused
-abbrev pub IsPathAnswer : Result (List ℕ) PathFault → Result (List ℕ) PathFault → Type 0
-IsPathAnswer (Err NoMemory) wanted = Unit {0}
-IsPathAnswer answer wanted = answer ≡ wanted
+-- The fault, where it says something of the text; want of memory says nothing.
+abbrev pub said_of_path : PathFault → Option PathFault
+said_of_path NoMemory = None
+said_of_path fault = Some fault
 
 -- a text that can be read as a path
 pub record IsPath (text : List ℕ) : Type 0 where

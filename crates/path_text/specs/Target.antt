@@ -1,5 +1,5 @@
 -- The targets of a directory's items, and what reading one gives.
-use Rattle.std.specs.Prelude.{ℕ, List, [], ◌∷◌, ◌≤◌, ◌≡◌, Bool, true, ◌||◌, nat_lt, not, All, Any, Contains, IsUtf8, Option, Result, Err}
+use Rattle.std.specs.Prelude.{ℕ, List, [], ◌∷◌, ◌≤◌, ◌≡◌, Bool, true, ◌||◌, nat_lt, not, All, Any, Contains, IsUtf8, Option, None, Some, Result}
 use Rattle.std.specs.List.{list_any}
 use Rattle.std.specs.Str.{is_utf8}
 use Rattle.answers.specs.First.{first_some, some_where, value_unless}
@@ -36,10 +36,10 @@ target_fault text = first_some (
 abbrev pub target_of : List ℕ → Result (List ℕ) RelFault
 target_of text = value_unless (target_fault text) text
 
--- the answer is the wanted one, unless memory was refused
-abbrev pub IsTargetAnswer : Result (List ℕ) RelFault → Result (List ℕ) RelFault → Type 0
-IsTargetAnswer (Err NoMemory) wanted = Unit {0}
-IsTargetAnswer answer wanted = answer ≡ wanted
+-- The fault, where it says something of the text; want of memory says nothing.
+abbrev pub said_of_target : RelFault → Option RelFault
+said_of_target NoMemory = None
+said_of_target fault = Some fault
 
 -- what a fault says of the text
 abbrev pub IsTargetFault : RelFault → List ℕ → Type 0

@@ -1,5 +1,6 @@
 ghost use Rattle.std.specs.Prelude.{◌≡◌, ◌≢◌, ◌∷◌, ◌++◌, IfErr, IfOk, MatchResult, None, OnOk, Some};
-ghost use Rattle.path_text.specs.Path.{IsNormalPath, IsPath, IsPathAnswer, IsPathFault, base_of, folder_of, path_fault, path_of};
+ghost use Rattle.answers.specs.Answers.{Answers};
+ghost use Rattle.path_text.specs.Path.{IsNormalPath, IsPath, IsPathFault, base_of, folder_of, path_fault, path_of, said_of_path};
 
 use crate::NoMemory;
 use crate::normal::{base_text, folder_text, joined, normal_text};
@@ -46,7 +47,7 @@ impl Abs {
     /// `..` drops the part before it, and nothing at the root. The first fault in the order of
     /// [`PathFault`] is answered.
     pub fn read(alloc: Global, text: &[u8]) -> Result<Abs, PathFault>
-        ensures answer { IsPathAnswer result (path_of text.now) }
+        ensures answer { Answers said_of_path result (path_of text.now) }
         ensures ok { OnOk result (IsPath text.now) }
         ensures normal { IfOk result (λ p. IsNormalPath p) }
         ensures fault { IfErr result (λ e. IsPathFault e text.now) }
@@ -63,7 +64,7 @@ impl Abs {
 
     /// Reads this path, a slash and the rest. The faults are those of the rest, HasNul and NotText.
     pub fn join(&self, alloc: Global, rest: &[u8]) -> Result<Abs, PathFault>
-        ensures answer { IsPathAnswer result (path_of (self.now ++ 47 ∷ rest.now)) }
+        ensures answer { Answers said_of_path result (path_of (self.now ++ 47 ∷ rest.now)) }
         ensures normal { IfOk result (λ p. IsNormalPath p) }
         ensures not_empty { result ≢ Err PathFault.Empty }
         ensures not_relative { result ≢ Err PathFault.Relative }

@@ -1,5 +1,6 @@
 ghost use Rattle.std.specs.Prelude.{◌≡◌, IfErr, IfOk, MatchResult, None, Some};
-ghost use Rattle.path_text.specs.Target.{IsTarget, IsTargetAnswer, IsTargetFault, has_bad_part, has_control, is_bad_part, target_fault, target_of};
+ghost use Rattle.answers.specs.Answers.{Answers};
+ghost use Rattle.path_text.specs.Target.{IsTarget, IsTargetFault, has_bad_part, has_control, is_bad_part, said_of_target, target_fault, target_of};
 
 use crate::scan::{begins_at_root, has_nul, is_idle, is_parent, text_of};
 use std::alloc::Global;
@@ -44,7 +45,7 @@ impl Model for Rel {
 impl Rel {
     /// Reads a target, as it is. The first fault in the order of [`RelFault`] is answered.
     pub fn read(alloc: Global, text: &[u8]) -> Result<Rel, RelFault>
-        ensures answer { IsTargetAnswer result (target_of text.now) }
+        ensures answer { Answers said_of_target result (target_of text.now) }
         ensures target { IfOk result (λ p. IsTarget p) }
         ensures fault { IfErr result (λ e. IsTargetFault e text.now) }
     {
