@@ -73,7 +73,7 @@ impl Flags for StateFlags {
 }
 
 impl StateFlags {
-    /// Do the bits change how libraries are found or bound?
+    /// Whether the bits change how libraries are found or bound.
     pub(crate) fn is_refused(self) -> bool
         ensures { result ≡ (has_bit DF_1_INTERPOSE self.0 || has_bit DF_1_NODEFLIB self.0) }
     {

@@ -5,6 +5,7 @@
 
 mod faults;
 mod flags;
+mod laws;
 mod segment;
 mod strings;
 mod table;
@@ -15,6 +16,7 @@ mod tests;
 pub use byte_view::Entry;
 pub use faults::DynFault;
 pub use flags::{ObjectFlags, StateFlags};
+pub use laws::first_entry_is_named;
 pub use strings::strings_size;
 pub use table::Dyn;
 pub use tags::{has_tag, value_of};

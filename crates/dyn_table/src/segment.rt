@@ -8,16 +8,17 @@ ghost use Rattle.byte_view.specs.DynamicFlaws.{begins_at, segment_flaw_by, secon
 ghost use Rattle.byte_view.specs.Headers.{file_end, is_dynamic};
 ghost use Rattle.byte_view.specs.Memory.{range_in};
 ghost use Rattle.byte_view.specs.Sound.{IsReadFrom};
-ghost use Rattle.dyn_table.specs.Faults.{flaw_of};
+ghost use Rattle.dyn_table.specs.Faults.{dyn_fault_flaw};
 ghost use Rattle.dyn_table.specs.Table.{entry_in, table_in};
 
 use crate::faults::{DynFault, flawed};
-use byte_view::constants::PT_DYNAMIC;
+use byte_view::constants::{D_VAL_AT, DYN_SIZE, PT_DYNAMIC};
 use byte_view::flaws::{DYNAMIC_PLACE, NO_DYNAMIC, TWO_DYNAMIC};
 use byte_view::{Entry, u64_at};
 use elf_headers::{Elf, Segment};
 use std::alloc::{AllocError, Global};
 
+/// Whether it is the dynamic table.
 fn is_dynamic(s: &Segment) -> bool
     ensures { result ≡ is_dynamic s.now }
 {
@@ -48,7 +49,7 @@ fn second_dynamic(segments: &[Segment]) -> Option<usize>
     }
 }
 
-/// Is the segment's memory backed, from the segment's own place in the file?
+/// Whether the segment's memory is backed, from the segment's own place in the file.
 fn is_placed(elf: &Elf, s: &Segment) -> bool
     ensures { result ≡ begins_at s.now.offset (range_in elf.now s.now.vaddr s.now.filesz) }
 {
@@ -61,7 +62,7 @@ fn is_placed(elf: &Elf, s: &Segment) -> bool
 /// The DYNAMIC segment: the only one, with room for an entry, and loaded from where it says.
 #[tactic(auto, unfolding(byte_view::specs::DynamicFlaws::place_flaw))]
 fn dynamic_segment(elf: &Elf) -> Result<Segment, DynFault>
-    ensures flaw { TellsBy flaw_of result (segment_flaw_by elf.now (find is_dynamic elf.now)) }
+    ensures flaw { TellsBy dyn_fault_flaw result (segment_flaw_by elf.now (find is_dynamic elf.now)) }
     ensures found { IfOk result (λ s. find is_dynamic elf.now ≡ Some s) }
 {
     let segments = elf.segments();
@@ -71,7 +72,7 @@ fn dynamic_segment(elf: &Elf) -> Result<Segment, DynFault>
     if let Some(i) = second_dynamic(segments) {
         return Err(flawed(TWO_DYNAMIC, i as u64));
     }
-    if segment.filesz < 16 || !is_placed(elf, &segment) {
+    if segment.filesz < DYN_SIZE || !is_placed(elf, &segment) {
         return Err(flawed(DYNAMIC_PLACE, 0));
     }
     Ok(segment)
@@ -80,12 +81,12 @@ fn dynamic_segment(elf: &Elf) -> Result<Segment, DynFault>
 /// The entry at a place.
 #[tactic(auto, unfolding(crate::specs::Table::entry_in))]
 fn entry_at(bytes: &[u8], at: u64) -> Entry
-    requires { at + 16 ≤ length bytes.now }
+    requires { at + DYN_SIZE ≤ length bytes.now }
     ensures { result ≡ entry_in bytes.now at }
 {
     Entry {
         tag: u64_at(bytes, at).unwrap(),
-        value: u64_at(bytes, at + 8).unwrap(),
+        value: u64_at(bytes, at + D_VAL_AT).unwrap(),
     }
 }
 
@@ -96,8 +97,8 @@ fn read_entries(alloc: Global, bytes: &[u8], s: &Segment) -> Result<Vec<Entry>, 
     ensures { IfOk result (λ table. table.items ≡ table_in bytes.now s.now) }
 {
     let from = s.offset;
-    (0..s.filesz / 16)
-        .map(|i| entry_at(bytes, from + 16 * i))
+    (0..s.filesz / DYN_SIZE)
+        .map(|i| entry_at(bytes, from + DYN_SIZE * i))
         .collect(alloc)
 }
 
@@ -105,7 +106,7 @@ fn read_entries(alloc: Global, bytes: &[u8], s: &Segment) -> Result<Vec<Entry>, 
 #[tactic(auto, using(crate::proofs::Placed::dynamic_within, crate::proofs::Placed::table_found))]
 pub(crate) fn read_table(alloc: Global, elf: &Elf, bytes: &[u8]) -> Result<Vec<Entry>, DynFault>
     requires { IsReadFrom elf.now bytes.now }
-    ensures flaw { TellsBy flaw_of result (segment_flaw_by elf.now (find is_dynamic elf.now)) }
+    ensures flaw { TellsBy dyn_fault_flaw result (segment_flaw_by elf.now (find is_dynamic elf.now)) }
     ensures table { IfOk result (λ table. table.items ≡ dynamic_table bytes.now) }
 {
     let segment = dynamic_segment(elf)?;

@@ -4,10 +4,10 @@ ghost use Rattle.std.specs.Prelude.{◌≡◌, ◌==◌, ◌≤◌, ◌<◌, ◌
 ghost use Rattle.std.specs.List.{before_first, find, position_or_len};
 ghost use Rattle.answers.specs.Answers.{TellsBy};
 ghost use Rattle.byte_view.specs.Dynamic.{strings_at, strings_size};
-ghost use Rattle.byte_view.specs.DynamicFlaws.{bad_place, is_name, is_zero, strings_flaw};
+ghost use Rattle.byte_view.specs.DynamicFlaws.{is_name, is_zero_byte, place_past_strings, strings_flaw};
 ghost use Rattle.byte_view.specs.Memory.{range_in};
 ghost use Rattle.byte_view.specs.Sound.{IsReadFrom};
-ghost use Rattle.dyn_table.specs.Faults.{flaw_of};
+ghost use Rattle.dyn_table.specs.Faults.{dyn_fault_flaw};
 
 use crate::faults::{DynFault, flawed};
 use crate::tags::value_of;
@@ -16,6 +16,7 @@ use byte_view::constants::{DT_NEEDED, DT_RPATH, DT_RUNPATH, DT_SONAME, DT_STRSZ,
 use byte_view::flaws::{STRING_PLACE, STRINGS_END, STRINGS_RANGE};
 use elf_headers::Elf;
 
+/// Whether its value is the place of a name.
 fn is_name(e: &Entry) -> bool
     ensures { result ≡ is_name e.now }
 {
@@ -23,8 +24,8 @@ fn is_name(e: &Entry) -> bool
 }
 
 /// The string place of the first name that does not lie in the string table.
-fn first_bad_place(entries: &[Entry]) -> Option<u64>
-    ensures { result ≡ bad_place entries.now }
+fn first_place_past(entries: &[Entry]) -> Option<u64>
+    ensures { result ≡ place_past_strings entries.now }
 {
     let size = strings_size(entries);
     entries
@@ -47,8 +48,9 @@ pub fn strings_size(entries: &[Entry]) -> u64
     value_of(DT_STRSZ, entries).unwrap_or(0)
 }
 
-fn is_zero(byte: Option<u8>) -> bool
-    ensures { result ≡ is_zero byte }
+/// Whether the byte is there, and zero.
+fn is_zero_byte(byte: Option<u8>) -> bool
+    ensures { result ≡ is_zero_byte byte }
 {
     match byte {
         Some(c) => c == 0,
@@ -64,7 +66,7 @@ pub(crate) fn check_strings(
     entries: &[Entry],
 ) -> Result<(usize, usize), DynFault>
     requires { IsReadFrom elf.now bytes.now }
-    ensures flaw { TellsBy flaw_of result (strings_flaw bytes.now elf.now entries.now) }
+    ensures flaw { TellsBy dyn_fault_flaw result (strings_flaw bytes.now elf.now entries.now) }
     ensures range { IfOk result (λ range. range_in elf.now (strings_at entries.now) (strings_size entries.now) ≡ Some range) }
 {
     let at = strings_at(entries);
@@ -75,10 +77,10 @@ pub(crate) fn check_strings(
     let Some(range) = elf.range(at, size) else {
         return Err(flawed(STRINGS_RANGE, 0));
     };
-    if !is_zero(elf.mem(bytes, at + (size - 1))) {
+    if !is_zero_byte(elf.mem(bytes, at + (size - 1))) {
         return Err(flawed(STRINGS_END, 0));
     }
-    if let Some(place) = first_bad_place(entries) {
+    if let Some(place) = first_place_past(entries) {
         return Err(flawed(STRING_PLACE, place));
     }
     Ok(range)

@@ -8,7 +8,7 @@ ghost use Rattle.byte_view.specs.Dynamic.{is_end, string_at, strings_at, strings
 ghost use Rattle.byte_view.specs.DynamicFlaws.{dynamic_flaw, table_flaw};
 ghost use Rattle.byte_view.specs.Memory.{range_in};
 ghost use Rattle.byte_view.specs.Sound.{IsReadFrom};
-ghost use Rattle.dyn_table.specs.Faults.{flaw_of};
+ghost use Rattle.dyn_table.specs.Faults.{dyn_fault_flaw};
 ghost use Rattle.dyn_table.specs.Table.{IsTableOf};
 
 use crate::faults::{DynFault, flawed};
@@ -46,7 +46,7 @@ impl Dyn {
     #[tactic(auto, unfolding(byte_view::specs::Dynamic::dynamic_entries, byte_view::specs::DynamicFlaws::dynamic_flaw))]
     pub fn read(alloc: Global, elf: &Elf, bytes: &[u8]) -> Result<Dyn, DynFault>
         requires { IsReadFrom elf.now bytes.now }
-        ensures flaw { TellsBy flaw_of result (dynamic_flaw bytes.now) }
+        ensures flaw { TellsBy dyn_fault_flaw result (dynamic_flaw bytes.now) }
         ensures table { IfOk result (λ t. IsTableOf t bytes.now) }
     {
         let mut entries = read_table(alloc, elf, bytes)?;
@@ -101,11 +101,11 @@ struct Parts {
     to: usize,
 }
 
-/// Is there an end, and are the entries before it such that they can be read?
+/// Whether there is an end, and the entries before it are such that they can be read.
 #[tactic(auto, unfolding(byte_view::specs::DynamicFlaws::table_flaw), using(crate::proofs::Ends::end_is, crate::proofs::Ends::no_end_is))]
 fn check_table(elf: &Elf, bytes: &[u8], table: &[Entry]) -> Result<Parts, DynFault>
     requires { IsReadFrom elf.now bytes.now }
-    ensures flaw { TellsBy flaw_of result (table_flaw bytes.now elf.now table.now) }
+    ensures flaw { TellsBy dyn_fault_flaw result (table_flaw bytes.now elf.now table.now) }
     ensures end { IfOk result (λ parts. take parts.end table.now ≡ before_first is_end table.now) }
     ensures strings { IfOk result (λ parts. range_in elf.now (strings_at (before_first is_end table.now)) (strings_size (before_first is_end table.now)) ≡ Some (parts.from, parts.to)) }
 {

@@ -4,7 +4,7 @@ ghost use Rattle.std.specs.Prelude.{◌≡◌, []};
 ghost use Rattle.answers.specs.Answers.{TellsBy};
 ghost use Rattle.byte_view.specs.Dynamic.{value_of};
 ghost use Rattle.byte_view.specs.DynamicFlaws.{entry_flaw, has_tag, is_refused, is_single, missing_flaw, tags_flaw};
-ghost use Rattle.dyn_table.specs.Faults.{flaw_of};
+ghost use Rattle.dyn_table.specs.Faults.{dyn_fault_flaw};
 
 use crate::faults::{DynFault, flawed};
 use crate::flags::StateFlags;
@@ -23,14 +23,14 @@ pub fn value_of(tag: u64, entries: &[Entry]) -> Option<u64>
     entries.iter().find(|e| e.tag == tag).map(|e| e.value)
 }
 
-/// Does an entry have this tag?
+/// Whether an entry has this tag.
 pub fn has_tag(tag: u64, entries: &[Entry]) -> bool
     ensures { result ≡ has_tag tag entries.now }
 {
     entries.iter().any(|e| e.tag == tag)
 }
 
-/// Does it change how libraries are found or bound, in ways that are not modelled?
+/// Whether it changes how libraries are found or bound, in ways that are not modelled.
 fn is_refused(e: &Entry) -> bool
     ensures { result ≡ is_refused e.now }
 {
@@ -41,7 +41,7 @@ fn is_refused(e: &Entry) -> bool
     }
 }
 
-/// Does the tag stand at most once?
+/// Whether the tag stands at most once.
 fn is_single(tag: u64) -> bool
     ensures { result ≡ is_single tag }
 {
@@ -67,12 +67,12 @@ fn is_single(tag: u64) -> bool
     )
 }
 
-/// Are all entries of known meaning, each that stands once only once?
+/// Whether no entry is refused, and each that stands at most once does.
 ///
 /// Each single tag is looked for once among the entries before it, and there are seventeen of them.
 #[tactic(auto, unfolding(byte_view::specs::DynamicFlaws::entry_flaw))]
 fn check_entries(entries: &[Entry]) -> Result<(), DynFault>
-    ensures { TellsBy flaw_of result (entry_flaw [] entries.now) }
+    ensures { TellsBy dyn_fault_flaw result (entry_flaw [] entries.now) }
 {
     for (i, e) in entries.iter().enumerate() {
         if is_refused(e) {
@@ -85,10 +85,10 @@ fn check_entries(entries: &[Entry]) -> Result<(), DynFault>
     Ok(())
 }
 
-/// Are the tags there that each table has, and those that others ask for?
+/// Whether the tags are there that each table has, and those that others ask for.
 #[tactic(auto, unfolding(byte_view::specs::DynamicFlaws::missing_flaw))]
 fn check_missing(entries: &[Entry]) -> Result<(), DynFault>
-    ensures { TellsBy flaw_of result (missing_flaw entries.now) }
+    ensures { TellsBy dyn_fault_flaw result (missing_flaw entries.now) }
 {
     if !has_tag(DT_STRTAB, entries) {
         return Err(flawed(MISSING_TAG, DT_STRTAB));
@@ -111,10 +111,10 @@ fn check_missing(entries: &[Entry]) -> Result<(), DynFault>
     Ok(())
 }
 
-/// Are the tags such that the table can be read?
+/// Whether the tags are such that the table can be read.
 #[tactic(auto, unfolding(byte_view::specs::DynamicFlaws::tags_flaw))]
 pub(crate) fn check_tags(entries: &[Entry]) -> Result<(), DynFault>
-    ensures { TellsBy flaw_of result (tags_flaw entries.now) }
+    ensures { TellsBy dyn_fault_flaw result (tags_flaw entries.now) }
 {
     check_entries(entries)?;
     check_missing(entries)
