@@ -62,6 +62,6 @@ abbrev pub numbers_told : ℕ → Told
 numbers_told code = unwrap_or (option_map (λ f. f.2) (named_flaw code)) Nothing
 
 -- A flaw has a name, where there is one.
-abbrev pub IsNamed : Option Flaw → Type 0
-IsNamed None = Unit {0}
-IsNamed (Some f) = IsSome (flaw_name f.code)
+abbrev pub IsNamedFlaw : Option Flaw → Type 0
+IsNamedFlaw None = Unit {0}
+IsNamedFlaw (Some f) = IsSome (flaw_name f.code)

@@ -12,3 +12,4 @@ pub mod Carried
 pub mod Opened
 pub mod Joined
 pub mod Selected
+pub mod FlawNaming

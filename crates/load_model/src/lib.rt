@@ -5,6 +5,7 @@ mod asks;
 mod bytes;
 mod escaping;
 mod faces;
+mod flaw_laws;
 mod laws;
 pub mod limits;
 mod lists;
@@ -21,6 +22,7 @@ pub use byte_view::Flaw;
 pub use bytes::{Name, Text};
 pub use escaping::{escape, escape_is_field};
 pub use faces::Face;
+pub use flaw_laws::each_flaw_is_named;
 pub use laws::{
     a_run_or_a_stop, at_most_one_run, copied_in_two_worlds, diamond_loads_breadth_first,
     first_right_decides, joined_is_path, listed_in_two_worlds, one_answer, opens_only_first_right,
