@@ -9,20 +9,20 @@ module _ {X : Type 0} (too_many : X) (limit : ℕ) (search : List Object → Lis
   pub is_run : (xs : Loaded) → run_by (target_of too_many limit search) limit program opens ≡ Ok xs → IsRun (target_of too_many limit search) program opens xs
   unfolding count_from
   is_run xs h =
-      run_is (target_of too_many limit search) limit (target_sound too_many limit search) (program.needs ∷ map (λ n. n ∷ []) opens) (record { objs = program ∷ []; log = [] }) xs refl (omega arith) (omega arith) h
+      run_is (target_of too_many limit search) limit (target_sound too_many limit search) (program.face.needs ∷ map (λ n. n ∷ []) opens) (record { objs = program ∷ []; log = [] }) xs refl (omega arith) (omega arith) h
 
   pub is_stop : (stop : X) → run_by (target_of too_many limit search) limit program opens ≡ Err stop → IsStoppedRun (target_of too_many limit search) program opens stop
   unfolding count_from
   is_stop stop h =
-      run_stops (target_of too_many limit search) limit (target_sound too_many limit search) (program.needs ∷ map (λ n. n ∷ []) opens) (record { objs = program ∷ []; log = [] }) stop refl (omega arith) (omega arith) h
+      run_stops (target_of too_many limit search) limit (target_sound too_many limit search) (program.face.needs ∷ map (λ n. n ∷ []) opens) (record { objs = program ∷ []; log = [] }) stop refl (omega arith) (omega arith) h
 
   answer_is : (xs : Loaded) → IsRun (target_of too_many limit search) program opens xs → (r : Result Loaded X) → run_by (target_of too_many limit search) limit program opens ≡ r → r ≡ Ok xs
   unfolding count_from
   answer_is xs p (Ok ys) h =
-      let same : ys ≡ xs = one_run (target_of too_many limit search) (program.needs ∷ map (λ n. n ∷ []) opens) (record { objs = program ∷ []; log = [] }) ys xs refl (is_run ys h) p in
+      let same : ys ≡ xs = one_run (target_of too_many limit search) (program.face.needs ∷ map (λ n. n ∷ []) opens) (record { objs = program ∷ []; log = [] }) ys xs refl (is_run ys h) p in
       cc
   answer_is xs p (Err s) h =
-      absurd (run_or_stop (target_of too_many limit search) (program.needs ∷ map (λ n. n ∷ []) opens) (record { objs = program ∷ []; log = [] }) xs s refl p (is_stop s h))
+      absurd (run_or_stop (target_of too_many limit search) (program.face.needs ∷ map (λ n. n ∷ []) opens) (record { objs = program ∷ []; log = [] }) xs s refl p (is_stop s h))
 
   pub run_found : (xs : Loaded) → IsRun (target_of too_many limit search) program opens xs → run_by (target_of too_many limit search) limit program opens ≡ Ok xs
   run_found xs p = answer_is xs p (run_by (target_of too_many limit search) limit program opens) refl

@@ -39,8 +39,8 @@ by_of i (n ∷ ns) (suc j) r h = by_of i ns j r h
 by_from : (i : ℕ) (os : List Object) (j : ℕ) (r : Request) → slice_get (needs_from i os) j ≡ Some r → i ≤ r.by
 by_from i [] j r h = cc
 by_from i (o ∷ os) j r h =
-    elim (slice_get-append (map (λ n. record { by = i; name = n }) o.needs) (needs_from (suc i) os) j r h) [
-      | inl e ↦ let same = by_of i o.needs j r e in omega arith
+    elim (slice_get-append (map (λ n. record { by = i; name = n }) o.face.needs) (needs_from (suc i) os) j r h) [
+      | inl e ↦ let same = by_of i o.face.needs j r e in omega arith
       | inr e ↦ let above = by_from (suc i) os e.0 r e.1 in omega arith
     ]
 
@@ -48,9 +48,9 @@ pub needs-append : (i : ℕ) (xs ys : List Object) → needs_from i (xs ++ ys) �
 needs-append i [] ys = let e : i + 0 ≡ i = omega arith in rw e refl
 needs-append i (x ∷ xs) ys =
     let e : suc i + length xs ≡ i + suc (length xs) = omega arith in
-    ap (λ rs. map (λ n. record { by = i; name = n }) x.needs ++ rs) (needs-append (suc i) xs ys)
-    ∙ sym (append_assoc (map (λ n. record { by = i; name = n }) x.needs) (needs_from (suc i) xs) (needs_from (suc i + length xs) ys))
-    ∙ ap (λ m. (map (λ n. record { by = i; name = n }) x.needs ++ needs_from (suc i) xs) ++ needs_from m ys) e
+    ap (λ rs. map (λ n. record { by = i; name = n }) x.face.needs ++ rs) (needs-append (suc i) xs ys)
+    ∙ sym (append_assoc (map (λ n. record { by = i; name = n }) x.face.needs) (needs_from (suc i) xs) (needs_from (suc i + length xs) ys))
+    ∙ ap (λ m. (map (λ n. record { by = i; name = n }) x.face.needs ++ needs_from (suc i) xs) ++ needs_from m ys) e
 
 -- a request of one of the first objects stands among the requests of these
 pub early_request : (opening : List (List ℕ)) (i : ℕ) (xs ys : List Object) (m : ℕ) (r : Request) → i ≤ length xs → slice_get (requests_of opening i (xs ++ ys)) m ≡ Some r → r.by < length xs → slice_get (requests_of opening i xs) m ≡ Some r

@@ -7,9 +7,6 @@ pub mod Known
 pub mod Places
 pub mod TwoWorlds
 pub mod Answered
-pub mod Listed
-pub mod Carried
-pub mod Opened
 pub mod Joined
 pub mod Selected
 pub mod FlawNaming

@@ -142,17 +142,17 @@ module _ {X : Type 0} (answer : List Object → List Asked → Request → Resul
   so_far_at : Loaded → List (List ℕ) → ℕ → List Object → List Request
   so_far_at before opening e objs = map (λ n. record { by = 0; name = n }) opening ++ needs_from (length before.objs) (take e (drop (length before.objs) objs))
 
-  turn_within : (before s t : Loaded) (opening : List (List ℕ)) (e : ℕ) (o : Object) → IsSoFar before s (so_far_at before opening e s.objs) → length before.objs + e < length s.objs → slice_get s.objs (length before.objs + e) ≡ Some o → ask_all answer s (map (λ n. record { by = length before.objs + e; name = n }) o.needs) ≡ Ok t → IsSoFar before t (so_far_at before opening (suc e) t.objs)
+  turn_within : (before s t : Loaded) (opening : List (List ℕ)) (e : ℕ) (o : Object) → IsSoFar before s (so_far_at before opening e s.objs) → length before.objs + e < length s.objs → slice_get s.objs (length before.objs + e) ≡ Some o → ask_all answer s (map (λ n. record { by = length before.objs + e; name = n }) o.face.needs) ≡ Ok t → IsSoFar before t (so_far_at before opening (suc e) t.objs)
   unfolding so_far_at
   turn_within before s t opening e o p below is h =
       let k = length before.objs in
-      let g = names_keep o.needs before s t (so_far_at before opening e s.objs) (k + e) p below h in
+      let g = names_keep o.face.needs before s t (so_far_at before opening e s.objs) (k + e) p below h in
       let size = length-drop k s.objs in
       let cut : drop k t.objs ≡ drop k s.objs ++ g.added = ap (drop k) g.objs ∙ drop-append-le k s.objs g.added (omega arith) in
       let front : take (suc e) (drop k t.objs) ≡ take e (drop k s.objs) ++ o ∷ [] =
       ap (take (suc e)) cut ∙ take-append-le (suc e) (drop k s.objs) g.added (omega arith) ∙ taken (drop k s.objs) e o (slice_get-drop k s.objs e ∙ is) in
       let count : length (take e (drop k s.objs)) ≡ e = length-take-le e (drop k s.objs) (omega arith) in
-      let mine : List Request = map (λ n. record { by = k + e; name = n }) o.needs in
+      let mine : List Request = map (λ n. record { by = k + e; name = n }) o.face.needs in
       let needs : needs_from k (take (suc e) (drop k t.objs)) ≡ needs_from k (take e (drop k s.objs)) ++ mine =
       ap (needs_from k) front ∙ needs-append k (take e (drop k s.objs)) (o ∷ []) ∙ ap (λ n. needs_from k (take e (drop k s.objs)) ++ needs_from (k + n) (o ∷ [])) count
       ∙ ap (λ rs. needs_from k (take e (drop k s.objs)) ++ rs) (append-nil mine) in
@@ -309,12 +309,12 @@ module _ {X : Type 0} (answer : List Object → List Asked → Request → Resul
   cut_at (x ∷ xs) zero o h = let same : x ≡ o = cc in ap (λ y. y ∷ xs) same
   cut_at (x ∷ xs) (suc e) o h = ap (λ ys. x ∷ ys) (cut_at xs e o h)
 
-  turn_stops : (before s : Loaded) (opening : List (List ℕ)) (e : ℕ) (o : Object) (stop : X) → IsSoFar before s (so_far_at before opening e s.objs) → length before.objs + e < length s.objs → slice_get s.objs (length before.objs + e) ≡ Some o → ask_all answer s (map (λ n. record { by = length before.objs + e; name = n }) o.needs) ≡ Err stop → (at : Loaded) × IsStop answer before opening at stop
+  turn_stops : (before s : Loaded) (opening : List (List ℕ)) (e : ℕ) (o : Object) (stop : X) → IsSoFar before s (so_far_at before opening e s.objs) → length before.objs + e < length s.objs → slice_get s.objs (length before.objs + e) ≡ Some o → ask_all answer s (map (λ n. record { by = length before.objs + e; name = n }) o.face.needs) ≡ Err stop → (at : Loaded) × IsStop answer before opening at stop
   unfolding so_far_at
   turn_stops before s opening e o stop p below is h =
       let k = length before.objs in
-      let w = names_stop o.needs before s (so_far_at before opening e s.objs) (k + e) stop p below h in
-      let mine : List Request = map (λ n. record { by = k + e; name = n }) o.needs in
+      let w = names_stop o.face.needs before s (so_far_at before opening e s.objs) (k + e) stop p below h in
+      let mine : List Request = map (λ n. record { by = k + e; name = n }) o.face.needs in
       let size = length-drop k s.objs in
       let xs : List Object = drop k w.at.objs in
       let cut : xs ≡ drop k s.objs ++ w.added = ap (drop k) w.objs ∙ drop-append-le k s.objs w.added (omega arith) in

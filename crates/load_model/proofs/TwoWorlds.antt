@@ -21,9 +21,9 @@ target_le objs c t (Known i) p = let e : t ≡ i = p.0 in let b : i < c = p.1 in
 target_le objs c t (Brought o) p = let e : t ≡ c = p.0 in omega arith
 
 -- the name is known by an earlier request, or by the soname
-pub known_cases : (log : List Asked) (n : List ℕ) (j : ℕ) (o : Object) → is_known log n j o ≡ true → ((i : ℕ) × (a : Asked) × (slice_get log i ≡ Some a) × (a.request.name ≡ n) × (a.target ≡ j)) ⊎ (is_named o.soname n ≡ true)
+pub known_cases : (log : List Asked) (n : List ℕ) (j : ℕ) (o : Object) → is_known log n j o ≡ true → ((i : ℕ) × (a : Asked) × (slice_get log i ≡ Some a) × (a.request.name ≡ n) × (a.target ≡ j)) ⊎ (is_named o.face.soname n ≡ true)
 known_cases log n j o h =
-    elim (or_cases (list_any (λ (a : Asked). bytes_eq a.request.name n && (a.target == j)) log) (is_named o.soname n) h) [
+    elim (or_cases (list_any (λ (a : Asked). bytes_eq a.request.name n && (a.target == j)) log) (is_named o.face.soname n) h) [
       | inl t ↦
           let w = any_place (λ (a : Asked). bytes_eq a.request.name n && (a.target == j)) log t in
           let parts = and_parts (bytes_eq w.1.request.name n) (w.1.target == j) w.3 in
@@ -34,7 +34,7 @@ known_cases log n j o h =
 pub known_by : (log : List Asked) (n : List ℕ) (j i : ℕ) (a : Asked) (o : Object) → slice_get log i ≡ Some a → a.request.name ≡ n → a.target ≡ j → is_known log n j o ≡ true
 known_by log n j i a o g name at =
     let test : bytes_eq a.request.name n ≡ true = ap (λ m. bytes_eq m n) name ∙ nat_list_eq_equiv.refl n in
-    or_left (list_any (λ (x : Asked). bytes_eq x.request.name n && (x.target == j)) log) (is_named o.soname n)
+    or_left (list_any (λ (x : Asked). bytes_eq x.request.name n && (x.target == j)) log) (is_named o.face.soname n)
     (any_here (λ (x : Asked). bytes_eq x.request.name n && (x.target == j)) log i a g (and_from (bytes_eq a.request.name n) (a.target == j) test (eq-eqb a.target j at)))
 
 module _ {X : Type 0} (too_many : X) (limit : ℕ) (search_here : List Object → List Asked → Request → Result Object X) where
@@ -71,13 +71,13 @@ pub named_some : (s : Option (List ℕ)) (n : List ℕ) → is_named s n ≡ tru
 named_some None n h = cc
 named_some (Some t) n h = (t, refl, same_bytes t n h)
 
-same_needs : (i : ℕ) (xs ys : List Object) → length xs ≡ length ys → ((j : ℕ) (x y : Object) → slice_get xs j ≡ Some x → slice_get ys j ≡ Some y → x.needs ≡ y.needs) → needs_from i xs ≡ needs_from i ys
+same_needs : (i : ℕ) (xs ys : List Object) → length xs ≡ length ys → ((j : ℕ) (x y : Object) → slice_get xs j ≡ Some x → slice_get ys j ≡ Some y → x.face.needs ≡ y.face.needs) → needs_from i xs ≡ needs_from i ys
 same_needs i [] [] e h = refl
 same_needs i [] (y ∷ ys) e h = absurd (omega arith)
 same_needs i (x ∷ xs) [] e h = absurd (omega arith)
 same_needs i (x ∷ xs) (y ∷ ys) e h =
     ap (λ ns. map (λ n. record { by = i; name = n }) ns ++ needs_from (suc i) xs) (h 0 x y refl refl)
-    ∙ ap (λ rs. map (λ n. record { by = i; name = n }) y.needs ++ rs) (same_needs (suc i) xs ys (omega arith) (λ j a b g k. h (suc j) a b g k))
+    ∙ ap (λ rs. map (λ n. record { by = i; name = n }) y.face.needs ++ rs) (same_needs (suc i) xs ys (omega arith) (λ j a b g k. h (suc j) a b g k))
 
 pub front_one : (xs : List Object) (q : Object) → slice_get xs 0 ≡ Some q → take 1 xs ≡ q ∷ []
 front_one [] q h = cc
@@ -132,13 +132,13 @@ module _ {X : Type 0} (too_many : X) (limit : ℕ) (search_here search_there : L
       apart_found w.0 i a x r.found w.3 (omega arith) some (omega arith) (w.4 ∙ sym w.5) gx (same ∙ ap key same_obj ∙ k.3) r.found_is r.target
 
   module _ (alike : AreAlike search_there key objs objs_there) where
-    named_there : (j : ℕ) (n : List ℕ) (x y : Object) → slice_get objs j ≡ Some x → slice_get objs_there j ≡ Some y → is_named y.soname n ≡ true → (0 < j) × (key x ≡ n)
+    named_there : (j : ℕ) (n : List ℕ) (x y : Object) → slice_get objs j ≡ Some x → slice_get objs_there j ≡ Some y → is_named y.face.soname n ≡ true → (0 < j) × (key x ≡ n)
     named_there zero n x y gx gy t =
-        let w = named_some y.soname n t in
+        let w = named_some y.face.soname n t in
         let no : Some w.0 ≡ None = sym w.1 ∙ (alike.program x y gx gy).1 in
         cc
     named_there (suc j) n x y gx gy t =
-        let w = named_some y.soname n t in
+        let w = named_some y.face.soname n t in
         let is = (alike.others (suc j) x y (omega arith) gx gy).soname w.0 w.1 in
         (omega arith, sym is ∙ w.2)
 
@@ -242,7 +242,7 @@ module _ {X : Type 0} (too_many : X) (limit : ℕ) (search_here search_there : L
         ]
 
 module _ {X : Type 0} (too_many : X) (limit : ℕ) (search_here search_there : List Object → List Asked → Request → Result Object X) (key : Object → List ℕ) (p q : Object) (objs_there : List Object) where
-  one_phase : (here : Loaded) → IsPhase (target_of too_many limit search_here) (record { objs = p ∷ []; log = [] }) p.needs here → GoesByKey key here.objs here.log → AreAlike search_there key here.objs objs_there → slice_get objs_there 0 ≡ Some q → IsPhase (target_of too_many limit search_there) (record { objs = q ∷ []; log = [] }) q.needs (record { objs = objs_there; log = here.log })
+  one_phase : (here : Loaded) → IsPhase (target_of too_many limit search_here) (record { objs = p ∷ []; log = [] }) p.face.needs here → GoesByKey key here.objs here.log → AreAlike search_there key here.objs objs_there → slice_get objs_there 0 ≡ Some q → IsPhase (target_of too_many limit search_there) (record { objs = q ∷ []; log = [] }) q.face.needs (record { objs = objs_there; log = here.log })
   one_phase here w goes alike first =
       let log : here.log ≡ w.more = w.log in
       let start : slice_get here.objs 0 ≡ Some p = (slice_get-take 1 here.objs 0 p (ap (λ os. slice_get os 0) w.objs)).1 in
@@ -256,11 +256,11 @@ module _ {X : Type 0} (too_many : X) (limit : ℕ) (search_here search_there : L
         objs = front_one objs_there q first;
         more = w.more;
         log = log;
-        asked = w.asked ∙ ap (λ rs. map (λ n. record { by = 0; name = n }) p.needs ++ rs) (sym needs) ∙ ap (λ ns. map (λ n. record { by = 0; name = n }) ns ++ needs_from 1 (drop 1 objs_there)) (sym own.0);
+        asked = w.asked ∙ ap (λ rs. map (λ n. record { by = 0; name = n }) p.face.needs ++ rs) (sym needs) ∙ ap (λ ns. map (λ n. record { by = 0; name = n }) ns ++ needs_from 1 (drop 1 objs_there)) (sym own.0);
         answered = answered_there too_many limit search_here search_there key here.objs objs_there w.more w.answered goes_more size_more alike;
         whole = w.whole ∙ sym alike.count;
       }
 
   pub same_run : (here : Loaded) → IsRun (target_of too_many limit search_here) p [] here → GoesByKey key here.objs here.log → AreAlike search_there key here.objs objs_there → slice_get objs_there 0 ≡ Some q → IsRun (target_of too_many limit search_there) q [] (record { objs = objs_there; log = here.log })
   same_run here w goes alike first =
-      (record { objs = objs_there; log = here.log }, one_phase here (subst (λ (s : Loaded). IsPhase (target_of too_many limit search_here) (record { objs = p ∷ []; log = [] }) p.needs s) (sym w.2) w.1) goes alike first, refl)
+      (record { objs = objs_there; log = here.log }, one_phase here (subst (λ (s : Loaded). IsPhase (target_of too_many limit search_here) (record { objs = p ∷ []; log = [] }) p.face.needs s) (sym w.2) w.1) goes alike first, refl)

@@ -24,9 +24,8 @@ pub use escaping::{escape, escape_is_field};
 pub use faces::Face;
 pub use flaw_laws::each_flaw_is_named;
 pub use laws::{
-    a_run_or_a_stop, at_most_one_run, copied_in_two_worlds, diamond_loads_breadth_first,
-    first_right_decides, joined_is_path, listed_in_two_worlds, one_answer, opens_only_first_right,
-    run_found, run_in_two_worlds, run_is_in_order, run_is_run, stop_is_stop,
+    a_run_or_a_stop, at_most_one_run, odd_name_has_no_path, one_answer, run_found,
+    run_in_two_worlds, run_is_in_order, run_is_run, stop_is_stop,
 };
 pub use lists::List;
 pub use offers::{Offers, is_bindable};

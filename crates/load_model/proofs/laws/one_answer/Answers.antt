@@ -6,9 +6,9 @@ use Rattle.load_model.proofs.laws.one_answer.Goals as goal
 pub returns-clause-run : goal.returns-clause-run
 unfolding count_from
 returns-clause-run g c too_many limit search program opens xs stop p q =
-    run_or_stop (target_of too_many limit search) (program.needs ∷ map (λ n. n ∷ []) opens) (record { objs = program ∷ []; log = [] }) xs stop refl p q
+    run_or_stop (target_of too_many limit search) (program.face.needs ∷ map (λ n. n ∷ []) opens) (record { objs = program ∷ []; log = [] }) xs stop refl p q
 
 pub returns-clause-stops : goal.returns-clause-stops
 unfolding count_from
 returns-clause-stops g c too_many limit search program opens s t p q =
-    first_stop (target_of too_many limit search) (program.needs ∷ map (λ n. n ∷ []) opens) (record { objs = program ∷ []; log = [] }) s t refl p q
+    first_stop (target_of too_many limit search) (program.face.needs ∷ map (λ n. n ∷ []) opens) (record { objs = program ∷ []; log = [] }) s t refl p q
