@@ -1,4 +1,8 @@
+ghost use Rattle.std.specs.Prelude.{◌≡◌, IfOk};
+
 use crate::Name;
+use path_text::NoMemory;
+use std::alloc::Global;
 
 /// A version that an object asks of a file.
 #[derive(Drop)]
@@ -7,4 +11,17 @@ pub struct Ask {
     pub name: Name,
     /// May the version be missing?
     pub weak: bool,
+}
+
+impl Ask {
+    /// The same ask.
+    pub fn copy(&self, alloc: Global) -> Result<Self, NoMemory>
+        ensures { IfOk result (λ ask. ask ≡ self.now) }
+    {
+        Ok(Ask {
+            file: self.file.copy(alloc)?,
+            name: self.name.copy(alloc)?,
+            weak: self.weak,
+        })
+    }
 }

@@ -34,6 +34,13 @@ impl Name {
     {
         self.bytes.as_slice()
     }
+
+    /// The same name.
+    pub fn copy(&self, alloc: Global) -> Result<Self, NoMemory>
+        ensures { IfOk result (λ name. name ≡ self.now) }
+    {
+        Name::from_bytes(alloc, self.as_bytes())
+    }
 }
 
 /// Bytes that are printed or written.

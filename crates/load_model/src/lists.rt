@@ -1,5 +1,6 @@
-ghost use Rattle.std.specs.Prelude.{◌≡◌, [], ◌∷◌, ◌++◌, OnErr, OnOk};
+ghost use Rattle.std.specs.Prelude.{◌≡◌, [], ◌∷◌, ◌++◌, IfOk, OnErr, OnOk};
 
+use crate::Name;
 use path_text::NoMemory;
 use std::alloc::Global;
 use std::marker::Model;
@@ -52,9 +53,23 @@ impl<T> List<T> {
     }
 }
 
+impl List<Name> {
+    /// The same names.
+    pub fn copy(&self, alloc: Global) -> Result<Self, NoMemory>
+        ensures { IfOk result (λ names. names ≡ self.now) }
+    {
+        let mut names = List::new(alloc);
+        'copy: for name in self.as_slice() {
+            names.push(name.copy(alloc)?)?;
+        }
+        Ok(names)
+    }
+}
+
 #[cfg(test)]
 mod tests {
     use super::List;
+    use crate::{Ask, Name, NoMemory, Ver};
 
     #[test]
     fn pushes_in_order(rt: HostRuntime) {
@@ -63,5 +78,30 @@ mod tests {
             assert!(rt; list.push(value).is_ok());
         }
         assert!(rt; list.as_slice() == [3, 1, 2].as_slice());
+    }
+
+    #[test]
+    fn copies_are_the_same(rt: HostRuntime) -> Result<(), NoMemory> {
+        let alloc = rt.alloc();
+        let mut needs = List::new(alloc);
+        needs.push(Name::from_bytes(alloc, b"libc.so.6".as_slice())?)?;
+        let needs = needs.copy(alloc)?;
+        assert!(rt; needs.as_slice().len() == 1);
+        assert!(rt; needs.as_slice()[0].as_bytes() == b"libc.so.6".as_slice());
+        let file = needs.as_slice()[0].copy(alloc)?;
+        let name = Name::from_bytes(alloc, b"GLIBC_2.34".as_slice())?;
+        let ask = Ask {
+            file,
+            name,
+            weak: true,
+        };
+        let ask = ask.copy(alloc)?;
+        assert!(rt; ask.weak && ask.name.as_bytes() == b"GLIBC_2.34".as_slice());
+        let version = Ver::Named {
+            index: 7,
+            name: ask.name,
+        };
+        assert!(rt; matches!(version.copy(alloc)?, Ver::Named { index: 7, .. }));
+        Ok(())
     }
 }

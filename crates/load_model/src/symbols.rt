@@ -1,4 +1,8 @@
+ghost use Rattle.std.specs.Prelude.{◌≡◌, IfOk};
+
 use crate::Name;
+use path_text::NoMemory;
+use std::alloc::Global;
 
 /// What a reference asks for: an address, a function to call, or a variable to copy into the program.
 #[derive(Clone, Copy, PartialEq, Eq, Debug)]
@@ -31,6 +35,22 @@ pub enum Ver {
     Local,
     Global,
     Named { index: u16, name: Name },
+}
+
+impl Ver {
+    /// The same version.
+    pub fn copy(&self, alloc: Global) -> Result<Self, NoMemory>
+        ensures { IfOk result (λ version. version ≡ self.now) }
+    {
+        Ok(match self {
+            Ver::Local => Ver::Local,
+            Ver::Global => Ver::Global,
+            Ver::Named { index, name } => Ver::Named {
+                index: *index,
+                name: name.copy(alloc)?,
+            },
+        })
+    }
 }
 
 /// A symbol as a loader sees it. Its place in its object's list is the symbol index.

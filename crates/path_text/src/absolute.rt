@@ -93,6 +93,16 @@ impl Abs {
         base_text(self.as_str()).as_bytes()
     }
 
+    /// The same path.
+    pub fn copy(&self, alloc: Global) -> Result<Abs, NoMemory>
+        ensures { IfOk result (λ p. p ≡ self.now) }
+    {
+        match String::from_str(alloc, self.as_str()) {
+            Ok(text) => Ok(Abs { text }),
+            Err(_) => Err(NoMemory),
+        }
+    }
+
     /// The path's text.
     pub fn as_str(&self) -> &str
         ensures text { result.now ≡ self.now }

@@ -2,6 +2,7 @@ ghost use Rattle.std.specs.Prelude.{◌≡◌, IfErr, IfOk, MatchResult, None, S
 ghost use Rattle.answers.specs.Answers.{Answers};
 ghost use Rattle.path_text.specs.Target.{IsTarget, IsTargetFault, has_bad_part, has_control, is_bad_part, said_of_target, target_fault, target_of};
 
+use crate::NoMemory;
 use crate::scan::{begins_at_root, has_nul, is_idle, is_parent, text_of};
 use std::alloc::Global;
 use std::marker::Model;
@@ -56,6 +57,16 @@ impl Rel {
         match String::from_str(alloc, text) {
             Ok(text) => Ok(Rel { text }),
             Err(_) => Err(RelFault::NoMemory),
+        }
+    }
+
+    /// The same target.
+    pub fn copy(&self, alloc: Global) -> Result<Rel, NoMemory>
+        ensures { IfOk result (λ p. p ≡ self.now) }
+    {
+        match String::from_str(alloc, self.as_str()) {
+            Ok(text) => Ok(Rel { text }),
+            Err(_) => Err(NoMemory),
         }
     }
 
