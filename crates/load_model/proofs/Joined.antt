@@ -1,15 +1,15 @@
 -- A directory joined with a name that is not UTF-8 gives no path.
-use Rattle.std.proofs.Common.{ℕ, List, [], ◌∷◌, ◌++◌, Bool, true, false, cond, eqb, not, Option, None, Some, Ok, Err, ◌≡◌, ◌≢◌, ◌≤◌, ◌<◌, ◌+◌, refl, sym, ◌∙◌, ap, subst, length, drop, get_or, suc, arith, append_assoc}
-use Rattle.std.specs.Prelude.{All, IsUtf8, codes}
+use Rattle.std.proofs.Common.{ℕ, List, [], ◌∷◌, ◌++◌, Bool, true, false, not, Some, Err, ◌≡◌, ◌≢◌, ◌≤◌, ◌<◌, ◌+◌, refl, sym, ◌∙◌, ap, subst, length, drop, get_or, suc, arith}
+use Rattle.std.specs.Prelude.{All, IsUtf8}
 use Rattle.std.specs.Str.{bytes_eq, is_utf8}
-use Rattle.std.proofs.lemmas.Bool.{or_from, false_from_ne_true, ne_eqb}
-use Rattle.std.proofs.lemmas.List.Elements.{All-head, All-cons, All-append, All-weaker}
+use Rattle.std.proofs.lemmas.Bool.{false_from_ne_true}
+use Rattle.std.proofs.lemmas.List.Elements.{All-cons, All-append, All-weaker}
 use Rattle.std.proofs.lemmas.Str.{IsUtf8-drop, IsUtf8-from_is_utf8, IsCharBoundary-after_ascii}
-use Rattle.path_text.specs.Path.{IsNormalPath, IsNamed, begins_at_root, has_nul, is_empty, normal_path, parts_of, path_fault, path_of, rooted}
+use Rattle.path_text.specs.Path.{IsNormalPath, begins_at_root, has_nul, is_empty, normal_path, path_fault, path_of}
 use Rattle.path_text.specs.FileName.{IsFileName, IsNameByte}
 use Rattle.answers.specs.First.{first_some, some_where, value_unless}
 use Rattle.path_text.specs.declared.absolute.PathFault.TheVariants.{Empty, Relative, HasNul, NotText}
-use Rattle.path_text.proofs.PathLemmas.{not_contained, All-from_not_contained, zero_contained, named_parts-IsNormalPath, begins_at_root-IsNormalPath}
+use Rattle.path_text.proofs.PathLemmas.{not_contained, All-from_not_contained, zero_contained, begins_at_root-IsNormalPath}
 use Rattle.load_model.proofs.TwoWorlds.{same_bytes}
 
 not_text : (xs ys : List ℕ) → (xs ≡ ys → ⊥) → bytes_eq xs ys ≡ false

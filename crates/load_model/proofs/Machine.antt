@@ -6,11 +6,11 @@ use Rattle.load_model.specs.LoadList.{Object, Request, Asked, Found, Known, Brou
 use Rattle.load_model.proofs.Counts.{count_push, count_front, slice_get_left, needs-append}
 use Rattle.load_model.proofs.OneRun.{taken}
 
-next_ok : {A B X : Type 0} (r : Result A X) (f : A → Result B X) (y : B) → next r f ≡ Ok y → (x : A) × (r ≡ Ok x) × (f x ≡ Ok y)
+pub next_ok : {A B X : Type 0} (r : Result A X) (f : A → Result B X) (y : B) → next r f ≡ Ok y → (x : A) × (r ≡ Ok x) × (f x ≡ Ok y)
 next_ok (Ok x) f y h = (x, refl, h)
 next_ok (Err e) f y h = cc
 
-next_err : {A B X : Type 0} (r : Result A X) (f : A → Result B X) (e : X) → next r f ≡ Err e → (r ≡ Err e) ⊎ ((x : A) × (r ≡ Ok x) × (f x ≡ Err e))
+pub next_err : {A B X : Type 0} (r : Result A X) (f : A → Result B X) (e : X) → next r f ≡ Err e → (r ≡ Err e) ⊎ ((x : A) × (r ≡ Ok x) × (f x ≡ Err e))
 next_err (Ok x) f e h = inr (x, refl, h)
 next_err (Err d) f e h = let s : d ≡ e = cc in inl (cc)
 
@@ -190,7 +190,7 @@ module _ {X : Type 0} (answer : List Object → List Asked → Request → Resul
       let one = turn before s two.0 opening e p (subst (λ (x : ℕ). ask_of answer s x (slice_get s.objs x) ≡ Ok two.0) at two.1) in
       walk_keeps f (suc i) (suc e) m before two.0 t opening (omega arith) (omega arith) one two.2
 
-  phase_is : (before after : Loaded) (opening : List (List ℕ)) → count_after before.log ≡ length before.objs → 0 < length before.objs → length before.objs ≤ limit → phase answer limit before opening ≡ Ok after → IsPhase answer before opening after × (length after.objs ≤ limit)
+  pub phase_is : (before after : Loaded) (opening : List (List ℕ)) → count_after before.log ≡ length before.objs → 0 < length before.objs → length before.objs ≤ limit → phase answer limit before opening ≡ Ok after → IsPhase answer before opening after × (length after.objs ≤ limit)
   unfolding phase so_far_at
   phase_is before after opening even some short h =
       let k = length before.objs in
@@ -221,7 +221,7 @@ module _ {X : Type 0} (answer : List Object → List Asked → Request → Resul
         done.short,
       )
 
-  longer : (before after : Loaded) (opening : List (List ℕ)) → IsPhase answer before opening after → length before.objs ≤ length after.objs
+  pub longer : (before after : Loaded) (opening : List (List ℕ)) → IsPhase answer before opening after → length before.objs ≤ length after.objs
   longer before after opening p =
       let e = count_front before.log p.more in
       omega (arith, length-take (length before.objs) after.objs, ap length p.objs)

@@ -1,6 +1,6 @@
 -- Where a name is looked for: the candidates of a request in order, and the first that decides (ld.so(8), in this
 -- profile).
-use Rattle.std.specs.Prelude.{ℕ, zero, suc, ◌+◌, List, [], ◌∷◌, ◌++◌, Bool, false, cond, ◌≡◌, ◌==◌, ◌⊎◌, Option, Some, None, Result, Ok, Err, length, map, slice_get, take}
+use Rattle.std.specs.Prelude.{ℕ, zero, suc, List, [], ◌∷◌, ◌++◌, Bool, false, cond, ◌≡◌, ◌==◌, ◌⊎◌, Option, Some, None, Result, Ok, Err, length, map, slice_get, take}
 use Rattle.std.specs.List.{flat_map, list_any}
 use Rattle.answers.specs.First.{first_some}
 use Rattle.byte_view.specs.declared.flaws.Flaw.{Flaw}

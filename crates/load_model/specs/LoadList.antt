@@ -147,6 +147,14 @@ module _ {X : Type 0} (answer : List Object → List Asked → Request → Resul
   abbrev pub run : ℕ → Object → List (List ℕ) → Result Loaded X
   run limit program opens = run_from limit (record { objs = program ∷ []; log = [] }) (program.face.needs ∷ map (λ n. n ∷ []) opens)
 
+  -- what is loaded and asked at the end of each phase
+  abbrev pub ends_from : ℕ → Loaded → List (List (List ℕ)) → Result (List Loaded) X
+  ends_from limit s [] = Ok []
+  ends_from limit s (opening ∷ openings) = next (phase limit s opening) (λ t. next (ends_from limit t openings) (λ ends. Ok (t ∷ ends)))
+
+  abbrev pub run_ends : ℕ → Object → List (List ℕ) → Result (List Loaded) X
+  run_ends limit program opens = ends_from limit (record { objs = program ∷ []; log = [] }) (program.face.needs ∷ map (λ n. n ∷ []) opens)
+
   -- an answer names an object that is there, and brings none past the limit
   pub record IsSound (limit : ℕ) : Type 0 where
     pub known : (objs : List Object) (log : List Asked) (r : Request) (i : ℕ) → answer objs log r ≡ Ok (Known i) → i < length objs

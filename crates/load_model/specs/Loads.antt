@@ -1,9 +1,8 @@
 -- The load list of the program at a path of a world, and the first stop of it.
-use Rattle.std.specs.Prelude.{ℕ, List, [], ◌∷◌, ◌≡◌, ◌<◌, ◌⊎◌, Option, Some, None, Result, Ok, Err, length, slice_get}
-use Rattle.std.specs.List.{position_from}
+use Rattle.std.specs.Prelude.{ℕ, List, ◌≡◌, ◌⊎◌, Option, Some, None, Result, Ok, Err}
 use Rattle.byte_view.specs.declared.flaws.Flaw.{Flaw}
 use Rattle.load_model.specs.Candidates.{path_search, refused_text}
-use Rattle.load_model.specs.LoadList.{Object, Request, Asked, Loaded, Found, IsRun, IsStoppedRun, IsEndedRun, target_of}
+use Rattle.load_model.specs.LoadList.{Object, Request, Asked, Loaded, Found, IsStoppedRun, IsEndedRun, target_of}
 use Rattle.load_model.specs.World.{World, Kind, Absent, Other, Object as IsObject, Damaged as IsDamaged, kind_of}
 use Rattle.load_model.specs.declared.faces.Face.{Face}
 use Rattle.load_model.specs.declared.limits.TheConstants.{MOST_OBJECTS}

@@ -1,5 +1,5 @@
 -- A run of a program: its load list with the bindings of all references, or the first stop.
-use Rattle.std.specs.Prelude.{ℕ, List, [], ◌≡◌, ◌⊎◌, Option, Some, None, Result, slice_get}
+use Rattle.std.specs.Prelude.{ℕ, List, ◌≡◌, ◌⊎◌, Some, None, Result, slice_get}
 use Rattle.byte_view.specs.declared.flaws.Flaw.{Flaw}
 use Rattle.load_model.specs.Bindings.{all_binds}
 use Rattle.load_model.specs.LoadList.{Loaded}

@@ -1,5 +1,5 @@
 -- Run paths: their items, and the tokens in an item (ld.so(8), Rpath token expansion).
-use Rattle.std.specs.Prelude.{ℕ, zero, suc, ◌+◌, List, [], ◌∷◌, ◌++◌, Bool, false, cond, not, ◌==◌, ◌&&◌, ◌||◌, nat_le, Option, Some, None, is_none, codes, drop, filter, length, map, take_while}
+use Rattle.std.specs.Prelude.{ℕ, zero, suc, ◌+◌, List, [], ◌∷◌, Bool, false, cond, not, ◌==◌, ◌&&◌, ◌||◌, nat_le, Option, Some, None, is_none, codes, drop, filter, length, map, take_while}
 use Rattle.std.specs.List.{flat_map, list_any, slice_split}
 use Rattle.std.specs.Option.{option_map, unwrap_or}
 use Rattle.std.specs.Str.{bytes_eq}

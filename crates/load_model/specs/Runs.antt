@@ -1,5 +1,5 @@
 -- A load list as the plain type `Run` has it: its objects name their faces by their place in a table.
-use Rattle.std.specs.Prelude.{ℕ, zero, suc, List, [], ◌∷◌, ◌≡◌, ◌<◌, ◌≤◌, ◌^◌, cond, Option, Some, None, All, length, map, nat_lt, slice_get}
+use Rattle.std.specs.Prelude.{ℕ, zero, suc, List, [], ◌∷◌, ◌≡◌, ◌<◌, ◌≤◌, ◌^◌, cond, Option, Some, None, All, length, map, nat_lt, slice_get, take}
 use Rattle.std.specs.List.{flat_map, position_from}
 use Rattle.std.specs.Option.{option_and_then, option_map, unwrap_or}
 use Rattle.std.specs.Str.{bytes_eq}
@@ -65,10 +65,15 @@ needs_at (Some o) = o.face.needs
 abbrev pub need_targets : Loaded → ℕ → List ℕ
 need_targets s k = map (target_in s.log) (needs_at (slice_get s.objs k))
 
--- A local list: the root, and then the targets of the needs of those in the list, breadth-first, each at its first
--- occurrence.
+-- The root, and then the targets of the needs of these objects, each at its first occurrence.
+abbrev pub reached : Loaded → ℕ → List ℕ → List ℕ
+reached s root ks = with_numbers (root ∷ []) (flat_map (need_targets s) ks)
+
+-- A local list: the root, and then the targets of the needs of those in the list, breadth-first; each but the root is a
+-- target of one before it.
 pub record IsLocal (s : Loaded) (root : ℕ) (ks : List ℕ) : Type 0 where
-  pub order : with_numbers (root ∷ []) (flat_map (need_targets s) ks) ≡ ks
+  pub order : reached s root ks ≡ ks
+  pub brought : (i : ℕ) → i < length ks → i < length (reached s root (take i ks))
 
 -- The number of the phase that brought an object: the first at whose end it is loaded.
 unfoldable pub phase_of : List Loaded → ℕ → ℕ

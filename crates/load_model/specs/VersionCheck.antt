@@ -1,14 +1,13 @@
 -- Whether the versions that objects ask for are there (Linux Standard Base, Symbol Versioning).
-use Rattle.std.specs.Prelude.{ℕ, ◌+◌, ◌≡◌, List, [], ◌∷◌, ◌++◌, Bool, true, false, cond, not, ◌==◌, ◌&&◌, ◌||◌, nat_le, Option, Some, None, filter, length, map, slice_get, take, zip}
+use Rattle.std.specs.Prelude.{ℕ, ◌≡◌, List, [], ◌∷◌, ◌++◌, Bool, true, cond, ◌==◌, ◌&&◌, ◌||◌, nat_le, Option, Some, None, filter, length, map, slice_get, take, zip}
 use Rattle.std.specs.List.{enumerate_from, find, flat_map, list_any}
-use Rattle.std.specs.Option.{option_and_then, option_map, unwrap_or}
+use Rattle.std.specs.Option.{option_map, unwrap_or}
 use Rattle.std.specs.Str.{bytes_eq}
 use Rattle.answers.specs.First.{first_some}
 use Rattle.load_model.specs.LoadList.{is_named, up_to}
 use Rattle.load_model.specs.Runs.{face_at}
 use Rattle.load_model.specs.declared.asks.Ask.{Ask}
 use Rattle.load_model.specs.declared.faces.Face.{Face}
-use Rattle.load_model.specs.declared.runs.Obj.{Obj}
 use Rattle.load_model.specs.declared.runs.Run.{Run}
 
 -- The phase that brought an object.

@@ -1,79 +1,122 @@
-//! Laws of the load list, each the contract of a function that does nothing. `X` is why a request has no target.
+//! Laws of load lists, each the contract of a function that does nothing.
 
-ghost use Rattle.std.specs.Prelude.{◌≡◌, ◌<◌, ◌⊎◌, ℕ, All, IsUtf8, List, [], ◌∷◌, ◌++◌, Result, length, map, slice_get};
+ghost use Rattle.std.specs.Prelude.{◌≡◌, ◌<◌, ◌⊎◌, ℕ, IsUtf8, List, [], ◌∷◌, ◌++◌, Result, Ok, Err, length, map, slice_get};
+ghost use Rattle.byte_view.specs.declared.flaws.Flaw.{Flaw};
 ghost use Rattle.path_text.specs.FileName.{IsFileName};
 ghost use Rattle.path_text.specs.Path.{IsNormalPath, path_of};
 ghost use Rattle.path_text.specs.declared.absolute.PathFault.TheVariants.{NotText};
-ghost use Rattle.load_model.specs.LoadList.{AreAlike, GoesByKey, IsRun, IsStoppedRun, Loaded, Object, Search, run as run_by, target_of, up_to, with_numbers};
+ghost use Rattle.load_model.specs.Candidates.{loader_in};
+ghost use Rattle.load_model.specs.LoadList.{AreAlike, Asked, GoesByKey, IsRun, Loaded, Object, Search, run as run_by, run_ends, target_of, up_to, with_numbers};
+ghost use Rattle.load_model.specs.Loads.{IsLoadList, IsStopped, goes_to, program_at};
+ghost use Rattle.load_model.specs.Runs.{IsLocal, target_in};
+ghost use Rattle.load_model.specs.World.{World};
+ghost use Rattle.load_model.specs.declared.faces.Face.{Face};
+ghost use Rattle.load_model.specs.declared.limits.TheConstants.{MOST_OBJECTS};
+ghost use Rattle.load_model.specs.declared.refusals.LoadRefusal.{LoadRefusal};
+ghost use Rattle.load_model.specs.declared.setting.Setting.{Setting};
 
-/// At most one list of objects and targets is the run of a program and its opened names.
-pub fn at_most_one_run<X>()
-    ensures { (too_many : X) (limit : ℕ) (search : Search X)
-        (program : Object) (opens : List (List ℕ)) (xs ys : Loaded)
-        → IsRun (target_of too_many limit search) program opens xs
-        → IsRun (target_of too_many limit search) program opens ys
-        → xs ≡ ys }
+/// At most one list, with the ends of its phases, is the load list of a program and its opened names.
+pub fn at_most_one_load_list()
+    ensures { (read : List ℕ → Result Face Flaw) (setting : Setting) (world : World)
+        (path : List ℕ) (opens : List (List ℕ)) (xs ys : Loaded) (xs_ends ys_ends : List Loaded)
+        → IsLoadList read setting world path opens xs xs_ends
+        → IsLoadList read setting world path opens ys ys_ends
+        → (xs ≡ ys) × (xs_ends ≡ ys_ends) }
 {}
 
-/// What the recursion answers is the run.
-pub fn run_is_run<X>()
-    ensures { (too_many : X) (limit : ℕ) (search : Search X)
-        (program : Object) (opens : List (List ℕ)) (xs : Loaded)
-        → 0 < limit
-        → run_by (target_of too_many limit search) limit program opens ≡ Ok xs
-        → IsRun (target_of too_many limit search) program opens xs }
-{}
-
-/// What is a run is what the recursion answers.
-pub fn run_found<X>()
-    ensures { (too_many : X) (limit : ℕ) (search : Search X)
-        (program : Object) (opens : List (List ℕ)) (xs : Loaded)
-        → 0 < limit
-        → IsRun (target_of too_many limit search) program opens xs
-        → run_by (target_of too_many limit search) limit program opens ≡ Ok xs }
-{}
-
-/// Where the recursion stops, the run stops with the same reason.
-pub fn stop_is_stop<X>()
-    ensures { (too_many : X) (limit : ℕ) (search : Search X)
-        (program : Object) (opens : List (List ℕ)) (stop : X)
-        → 0 < limit
-        → run_by (target_of too_many limit search) limit program opens ≡ Err stop
-        → IsStoppedRun (target_of too_many limit search) program opens stop }
-{}
-
-/// A run has one answer: it does not both end and stop, and it does not stop in two ways.
-pub fn one_answer<X>()
-    ensures run { (too_many : X) (limit : ℕ) (search : Search X)
-        (program : Object) (opens : List (List ℕ)) (xs : Loaded) (stop : X)
-        → IsRun (target_of too_many limit search) program opens xs
-        → IsStoppedRun (target_of too_many limit search) program opens stop
+/// A program has no load list where it stops, and it does not stop in two ways.
+pub fn a_list_or_one_stop()
+    ensures list { (read : List ℕ → Result Face Flaw) (setting : Setting) (world : World)
+        (path : List ℕ) (opens : List (List ℕ)) (loaded : Loaded) (ends : List Loaded) (stop : LoadRefusal)
+        → IsLoadList read setting world path opens loaded ends
+        → IsStopped read setting world path opens stop
         → ⊥ }
-    ensures stops { (too_many : X) (limit : ℕ) (search : Search X)
-        (program : Object) (opens : List (List ℕ)) (s t : X)
-        → IsStoppedRun (target_of too_many limit search) program opens s
-        → IsStoppedRun (target_of too_many limit search) program opens t
+    ensures stops { (read : List ℕ → Result Face Flaw) (setting : Setting) (world : World)
+        (path : List ℕ) (opens : List (List ℕ)) (s t : LoadRefusal)
+        → IsStopped read setting world path opens s
+        → IsStopped read setting world path opens t
         → s ≡ t }
 {}
 
-/// There is a run or a stop, whatever the search, the program and its opened names.
-pub fn a_run_or_a_stop<X>()
-    ensures { (too_many : X) (limit : ℕ) (search : Search X)
-        (program : Object) (opens : List (List ℕ))
-        → 0 < limit
-        → ((xs : Loaded) × IsRun (target_of too_many limit search) program opens xs)
-        ⊎ ((stop : X) × IsStoppedRun (target_of too_many limit search) program opens stop) }
+/// A program has a load list or a stop, in every world.
+pub fn always_a_list_or_a_stop()
+    ensures { (read : List ℕ → Result Face Flaw) (setting : Setting) (world : World)
+        (path : List ℕ) (opens : List (List ℕ))
+        → ((loaded : Loaded) × (ends : List Loaded) × IsLoadList read setting world path opens loaded ends)
+        ⊎ ((stop : LoadRefusal) × IsStopped read setting world path opens stop) }
+{}
+
+/// What the recursion answers is the load list, with the ends of its phases.
+pub fn recursion_gives_the_list()
+    ensures { (read : List ℕ → Result Face Flaw) (setting : Setting) (world : World)
+        (path : List ℕ) (opens : List (List ℕ)) (program : Object) (loaded : Loaded) (ends : List Loaded)
+        → program_at read setting world path ≡ Ok program
+        → run_by (goes_to read setting world path) MOST_OBJECTS program opens ≡ Ok loaded
+        → run_ends (goes_to read setting world path) MOST_OBJECTS program opens ≡ Ok ends
+        → IsLoadList read setting world path opens loaded ends }
+{}
+
+/// Where the recursion stops, the load list stops with the same reason.
+pub fn recursion_gives_the_stop()
+    ensures run { (read : List ℕ → Result Face Flaw) (setting : Setting) (world : World)
+        (path : List ℕ) (opens : List (List ℕ)) (program : Object) (stop : LoadRefusal)
+        → program_at read setting world path ≡ Ok program
+        → run_by (goes_to read setting world path) MOST_OBJECTS program opens ≡ Err stop
+        → IsStopped read setting world path opens stop }
+    ensures ends { (read : List ℕ → Result Face Flaw) (setting : Setting) (world : World)
+        (path : List ℕ) (opens : List (List ℕ)) (program : Object) (stop : LoadRefusal)
+        → run_ends (goes_to read setting world path) MOST_OBJECTS program opens ≡ Err stop
+        → run_by (goes_to read setting world path) MOST_OBJECTS program opens ≡ Err stop }
+{}
+
+/// A load list is what the recursion answers.
+pub fn list_is_found_by_recursion()
+    ensures { (read : List ℕ → Result Face Flaw) (setting : Setting) (world : World)
+        (path : List ℕ) (opens : List (List ℕ)) (loaded : Loaded) (ends : List Loaded)
+        → IsLoadList read setting world path opens loaded ends
+        → (program : Object) × (program_at read setting world path ≡ Ok program)
+        × (run_by (goes_to read setting world path) MOST_OBJECTS program opens ≡ Ok loaded)
+        × (run_ends (goes_to read setting world path) MOST_OBJECTS program opens ≡ Ok ends) }
 {}
 
 /// The objects are the program and the targets of all requests in order, each only at its first occurrence.
-pub fn run_is_in_order<X>()
-    ensures { (too_many : X) (limit : ℕ) (search : Search X)
-        (program : Object) (opens : List (List ℕ)) (xs : Loaded)
-        → IsRun (target_of too_many limit search) program opens xs
-        → with_numbers (0 ∷ []) (map (λ a. a.target) xs.log) ≡ up_to (length xs.objs) }
+pub fn objects_are_the_targets()
+    ensures { (read : List ℕ → Result Face Flaw) (setting : Setting) (world : World)
+        (path : List ℕ) (opens : List (List ℕ)) (loaded : Loaded) (ends : List Loaded)
+        → IsLoadList read setting world path opens loaded ends
+        → with_numbers (0 ∷ []) (map (λ a. a.target) loaded.log) ≡ up_to (length loaded.objs) }
 {}
 
-/// Where the key of each object finds a file with the same needs, the run has the same order and the same targets.
+/// Each object but the program has a loader with a smaller number.
+pub fn loaders_come_before()
+    ensures { (read : List ℕ → Result Face Flaw) (setting : Setting) (world : World)
+        (path : List ℕ) (opens : List (List ℕ)) (loaded : Loaded) (ends : List Loaded)
+        → IsLoadList read setting world path opens loaded ends
+        → (j : ℕ) → 0 < j → j < length loaded.objs → loader_in loaded.log j < j }
+{}
+
+/// All requests of one name go to one object of the list.
+pub fn a_name_goes_to_one_object()
+    ensures one { (read : List ℕ → Result Face Flaw) (setting : Setting) (world : World)
+        (path : List ℕ) (opens : List (List ℕ)) (loaded : Loaded) (ends : List Loaded)
+        → IsLoadList read setting world path opens loaded ends
+        → (m : ℕ) (a : Asked) → slice_get loaded.log m ≡ Some a → target_in loaded.log a.request.name ≡ a.target }
+    ensures loaded { (read : List ℕ → Result Face Flaw) (setting : Setting) (world : World)
+        (path : List ℕ) (opens : List (List ℕ)) (loaded : Loaded) (ends : List Loaded)
+        → IsLoadList read setting world path opens loaded ends
+        → (m : ℕ) (a : Asked) → slice_get loaded.log m ≡ Some a → a.target < length loaded.objs }
+{}
+
+/// At most one list is the local list of a root.
+pub fn at_most_one_local_list()
+    ensures { (loaded : Loaded) (root : ℕ) (ks ls : List ℕ)
+        → IsLocal loaded root ks
+        → IsLocal loaded root ls
+        → ks ≡ ls }
+{}
+
+/// Where the key of each object finds a file with the same needs, the run has the same order and the same targets. `X` is
+/// why a request has no target.
 pub fn run_in_two_worlds<X>()
     ensures { (too_many : X) (limit : ℕ) (here there : Search X) (key : Object → List ℕ)
         (program program_there : Object) (run : Loaded) (objs_there : List Object)

@@ -24,8 +24,10 @@ pub use escaping::{escape, escape_is_field};
 pub use faces::Face;
 pub use flaw_laws::each_flaw_is_named;
 pub use laws::{
-    a_run_or_a_stop, at_most_one_run, odd_name_has_no_path, one_answer, run_found,
-    run_in_two_worlds, run_is_in_order, run_is_run, stop_is_stop,
+    a_list_or_one_stop, a_name_goes_to_one_object, always_a_list_or_a_stop, at_most_one_load_list,
+    at_most_one_local_list, list_is_found_by_recursion, loaders_come_before,
+    objects_are_the_targets, odd_name_has_no_path, recursion_gives_the_list,
+    recursion_gives_the_stop, run_in_two_worlds,
 };
 pub use lists::List;
 pub use offers::{Offers, is_bindable};
