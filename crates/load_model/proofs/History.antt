@@ -3,7 +3,7 @@ use Rattle.std.proofs.Common.{◌≡◌, ◌∙◌, sym, ap, refl, ℕ, zero, su
 use Rattle.std.proofs.lemmas.List.{take-append-drop, take-append-le, take_all, append-nil}
 use Rattle.std.proofs.lemmas.Option.{slice_get_within}
 use Rattle.std.proofs.lemmas.Bool.{cases_lt}
-use Rattle.load_model.specs.LoadList.{Object, Request, Asked, Found, Known, Brought, Loaded, count_from, count_after, IsTarget, IsAnswered, IsPhase, IsRunFrom}
+use Rattle.load_model.specs.LoadList.{Object, Request, Asked, Found, Known, Brought, Loaded, count_from, count_after, WentTo, IsAnswered, IsPhase, IsRunFrom}
 use Rattle.load_model.proofs.Counts.{count_push, count_front, slice_get_left}
 use Rattle.load_model.proofs.OneRun.{taken, there}
 use Rattle.load_model.proofs.Places.{slice_get-take, slice_get_front}
@@ -44,11 +44,11 @@ target_count log m a g =
 pub count_at : (log : List Asked) (m : ℕ) → count_after (take m log) ≤ count_after log
 count_at log m = let le = count_front (take m log) (drop m log) in let all = ap count_after (take-append-drop m log) in omega arith
 
-more_target : (objs : List Object) (n c t : ℕ) (f : Found) → IsTarget (take n objs) c t f → IsTarget objs c t f
+more_target : (objs : List Object) (n c t : ℕ) (f : Found) → WentTo (take n objs) c t f → WentTo objs c t f
 more_target objs n c t (Known i) p = p
 more_target objs n c t (Brought o) p = (p.0, (slice_get-take n objs c o p.1).1)
 
-less_target : (objs : List Object) (n c t : ℕ) (f : Found) → t < n → IsTarget objs c t f → IsTarget (take n objs) c t f
+less_target : (objs : List Object) (n c t : ℕ) (f : Found) → t < n → WentTo objs c t f → WentTo (take n objs) c t f
 less_target objs n c t (Known i) b p = p
 less_target objs n c t (Brought o) b p = let e : t ≡ c = p.0 in (e, slice_get_front n objs c o (omega arith) p.1)
 

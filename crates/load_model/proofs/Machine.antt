@@ -2,7 +2,7 @@
 use Rattle.std.proofs.Common.{◌≡◌, ◌∙◌, sym, ap, refl, ℕ, zero, suc, ◌+◌, ◌≤◌, ◌<◌, List, [], ◌∷◌, ◌++◌, Option, Some, Result, Ok, Err, length, take, drop, map, max, slice_get, arith, subst, ◌⊎◌, inl, inr, append_assoc}
 use Rattle.std.proofs.lemmas.List.{append-nil, take-append-drop, take_all, take_at, take-append-le, drop-append-le, length-append, length-drop, length-take, length-take-le, length_push, map_push}
 use Rattle.std.proofs.lemmas.Option.{slice_get_cases}
-use Rattle.load_model.specs.LoadList.{Object, Request, Asked, Found, Known, Brought, Loaded, count_after, needs_from, requests_of, IsTarget, IsAnswered, IsPhase, IsStop, IsRunFrom, IsStopFrom, IsSound, next, with_found, ask, ask_all, ask_of, walk, phase, run_from}
+use Rattle.load_model.specs.LoadList.{Object, Request, Asked, Found, Known, Brought, Loaded, count_after, needs_from, requests_of, WentTo, IsAnswered, IsPhase, IsStop, IsRunFrom, IsStopFrom, IsSound, next, with_found, ask, ask_all, ask_of, walk, phase, run_from}
 use Rattle.load_model.proofs.Counts.{count_push, count_front, slice_get_left, needs-append}
 use Rattle.load_model.proofs.OneRun.{taken}
 
@@ -34,7 +34,7 @@ at_end [] x = refl
 at_end (y ∷ xs) x = at_end xs x
 
 module _ {X : Type 0} (answer : List Object → List Asked → Request → Result Found X) (limit : ℕ) (sound : IsSound answer limit) where
-  grow_target : (objs added : List Object) (c t : ℕ) (f : Found) → IsTarget objs c t f → IsTarget (objs ++ added) c t f
+  grow_target : (objs added : List Object) (c t : ℕ) (f : Found) → WentTo objs c t f → WentTo (objs ++ added) c t f
   grow_target objs added c t (Known i) p = p
   grow_target objs added c t (Brought o) p = (p.0, slice_get_left objs added c o p.1)
 
@@ -80,14 +80,14 @@ module _ {X : Type 0} (answer : List Object → List Asked → Request → Resul
       ]
 
   -- one request more
-  pushed : (before s t : Loaded) (asked : List Request) (r : Request) (i : ℕ) (f : Found) (added : List Object) → IsSoFar before s asked → r.by < length s.objs → answer s.objs s.log r ≡ Ok f → t.objs ≡ s.objs ++ added → t.log ≡ s.log ++ record { request = r; target = i } ∷ [] → IsTarget t.objs (length s.objs) i f → max (length s.objs) (suc i) ≡ length t.objs → length t.objs ≤ limit → Grows before s t (asked ++ r ∷ [])
+  pushed : (before s t : Loaded) (asked : List Request) (r : Request) (i : ℕ) (f : Found) (added : List Object) → IsSoFar before s asked → r.by < length s.objs → answer s.objs s.log r ≡ Ok f → t.objs ≡ s.objs ++ added → t.log ≡ s.log ++ record { request = r; target = i } ∷ [] → WentTo t.objs (length s.objs) i f → max (length s.objs) (suc i) ≡ length t.objs → length t.objs ≤ limit → Grows before s t (asked ++ r ∷ [])
   pushed before s t asked r i f added p by is objs log target count short =
       let a : Asked = record { request = r; target = i } in
       let last : IsAnswered answer t.objs s.log a = record {
         asker = rw p.whole by;
         found = f;
         found_is = ap (λ n. answer (take n t.objs) s.log r) p.whole ∙ ap (λ os. answer os s.log r) (ap (take (length s.objs)) objs ∙ take_at s.objs added (length s.objs) refl) ∙ is;
-        target = subst (λ (n : ℕ). IsTarget t.objs n i f) (sym p.whole) target;
+        target = subst (λ (n : ℕ). WentTo t.objs n i f) (sym p.whole) target;
       } in
       record {
         so_far = record {

@@ -5,7 +5,7 @@ use Rattle.std.proofs.lemmas.Bool.{or_right, cases_Bool, cases_lt, both_ways}
 use Rattle.std.specs.List.{list_any}
 use Rattle.std.proofs.lemmas.Cmp.{nat_list_eq_equiv}
 use Rattle.std.proofs.lemmas.Option.{slice_get_within}
-use Rattle.load_model.specs.LoadList.{Object, Request, Asked, Found, Known, Brought, count_after, IsTarget, IsAnswered, is_named, is_known, first_place, by_name, target_of}
+use Rattle.load_model.specs.LoadList.{Object, Request, Asked, Found, Known, Brought, count_after, WentTo, IsAnswered, is_named, is_known, first_place, by_name, target_of}
 use Rattle.load_model.specs.Runs.{target_in}
 use Rattle.load_model.proofs.OneRun.{there}
 use Rattle.load_model.proofs.Places.{slice_get-take, slice_get_front, none_passes}
@@ -53,7 +53,7 @@ module _ {X : Type 0} (too_many : X) (limit : ℕ) (search : List Object → Lis
   unfolding target_of
   known_or_not objs log r f h = known_name objs log r f (first_place (is_known log r.name) 0 objs) h
 
-  known_target : (objs : List Object) (c u : ℕ) (f : Found) (t : ℕ) → f ≡ Known t → IsTarget objs c u f → u ≡ t
+  known_target : (objs : List Object) (c u : ℕ) (f : Found) (t : ℕ) → f ≡ Known t → WentTo objs c u f → u ≡ t
   known_target objs c u (Known i) t e p = let same : i ≡ t = cc in let at : u ≡ i = p.0 in omega arith
   known_target objs c u (Brought o) t e p = cc
 

@@ -3,7 +3,7 @@ use Rattle.std.proofs.Common.{◌≡◌, ◌∙◌, sym, ap, refl, ℕ, zero, su
 use Rattle.std.proofs.lemmas.List.{take-append-drop, append-nil, take_all, length-take-le, length-map, append_cancel_left}
 use Rattle.std.proofs.lemmas.Option.{slice_get-map, slice_get_within}
 use Rattle.std.specs.Option.{option_map}
-use Rattle.load_model.specs.LoadList.{Object, Request, Asked, Found, Known, Brought, Loaded, count_after, requests_of, IsTarget, IsAnswered, IsPart, IsPhase, IsStop, IsRunFrom, IsStopFrom}
+use Rattle.load_model.specs.LoadList.{Object, Request, Asked, Found, Known, Brought, Loaded, count_after, requests_of, WentTo, IsAnswered, IsPart, IsPhase, IsStop, IsRunFrom, IsStopFrom}
 use Rattle.load_model.proofs.Counts.{count_push, count_front, early_request, slice_get_left}
 
 pub there : {X : Type 0} (xs : List X) (m : ℕ) → m < length xs → (x : X) × (slice_get xs m ≡ Some x)
@@ -27,11 +27,11 @@ same_loaded : (a b : Loaded) → a.objs ≡ b.objs → a.log ≡ b.log → a ≡
 same_loaded a b e f = ap (λ os. record { objs = os; log = a.log }) e ∙ ap (λ xs. record { objs = b.objs; log = xs }) f
 
 module _ {X : Type 0} (answer : List Object → List Asked → Request → Result Found X) where
-  same_target : (xs ys : List Object) (c t u : ℕ) (f : Found) → IsTarget xs c t f → IsTarget ys c u f → t ≡ u
+  same_target : (xs ys : List Object) (c t u : ℕ) (f : Found) → WentTo xs c t f → WentTo ys c u f → t ≡ u
   same_target xs ys c t u (Known i) p q = p.0 ∙ sym q.0
   same_target xs ys c t u (Brought o) p q = p.0 ∙ sym q.0
 
-  same_objs : (xs ys : List Object) (c t u : ℕ) (f : Found) → take c xs ≡ take c ys → IsTarget xs c t f → IsTarget ys c u f → take (max c (suc t)) xs ≡ take (max c (suc t)) ys
+  same_objs : (xs ys : List Object) (c t u : ℕ) (f : Found) → take c xs ≡ take c ys → WentTo xs c t f → WentTo ys c u f → take (max c (suc t)) xs ≡ take (max c (suc t)) ys
   same_objs xs ys c t u (Known i) e p q =
       let i_is : t ≡ i = p.0 in
       let below : i < c = p.1 in
@@ -85,7 +85,7 @@ module _ {X : Type 0} (answer : List Object → List Asked → Request → Resul
         let found_same : Ok r.found ≡ Ok t.found =
         sym r.found_is ∙ ap (λ os. answer os (at p.more m) x.request) s.objs ∙ ap (answer (take c b.objs) (at p.more m)) request ∙ t.found_is in
         let found : t.found ≡ r.found = cc in
-        let given : IsTarget b.objs c y.target r.found = subst (λ (f : Found). IsTarget b.objs c y.target f) found t.target in
+        let given : WentTo b.objs c y.target r.found = subst (λ (f : Found). WentTo b.objs c y.target f) found t.target in
         let target : x.target ≡ y.target = same_target a.objs b.objs c x.target y.target r.found r.target given in
         let same = same_asked x y request target in
         let more : count_after (at p.more (suc m)) ≡ max c (suc x.target) =

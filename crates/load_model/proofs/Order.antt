@@ -4,7 +4,7 @@ use Rattle.std.specs.List.{list_any}
 use Rattle.std.proofs.lemmas.List.{append-nil, map-append}
 use Rattle.std.proofs.lemmas.List.Folds.{list_any-append}
 use Rattle.std.proofs.lemmas.Bool.{eq-eqb, ne_eqb, or_left, or_from, or_right, cases_lt}
-use Rattle.load_model.specs.LoadList.{Object, Request, Asked, Found, Known, Brought, Loaded, count_after, IsTarget, IsPhase, IsRunFrom, with_numbers, up_to}
+use Rattle.load_model.specs.LoadList.{Object, Request, Asked, Found, Known, Brought, Loaded, count_after, WentTo, IsPhase, IsRunFrom, with_numbers, up_to}
 use Rattle.load_model.proofs.Counts.{count_push}
 
 pub with_numbers-append : (ks xs ys : List ℕ) → with_numbers ks (xs ++ ys) ≡ with_numbers (with_numbers ks xs) ys
@@ -47,7 +47,7 @@ dense (a ∷ more) before h =
     ∙ ap (λ xs. up_to (count_after xs)) (append_assoc before (a ∷ []) more)
 
 module _ {X : Type 0} (answer : List Object → List Asked → Request → Result Found X) where
-  target_le : (objs : List Object) (c t : ℕ) (f : Found) → IsTarget objs c t f → t ≤ c
+  target_le : (objs : List Object) (c t : ℕ) (f : Found) → WentTo objs c t f → t ≤ c
   target_le objs c t (Known i) p = let e : t ≡ i = p.0 in let b : i < c = p.1 in omega arith
   target_le objs c t (Brought o) p = let e : t ≡ c = p.0 in omega arith
 

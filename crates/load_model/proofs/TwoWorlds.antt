@@ -7,7 +7,7 @@ use Rattle.std.specs.Cmp.Lexicographic.{same_text}
 use Rattle.std.proofs.lemmas.Cmp.{nat_list_eq_equiv}
 use Rattle.std.proofs.lemmas.List.{take-append-drop, length-take-le, length-drop}
 use Rattle.std.proofs.lemmas.Option.{slice_get_within}
-use Rattle.load_model.specs.LoadList.{Object, Request, Asked, Found, Known, Brought, Loaded, count_from, count_after, needs_from, IsTarget, IsAnswered, IsPhase, IsRun, is_named, is_known, first_place, by_id, by_search, by_name, target_of, GoesByKey, AreAlike}
+use Rattle.load_model.specs.LoadList.{Object, Request, Asked, Found, Known, Brought, Loaded, count_from, count_after, needs_from, WentTo, IsAnswered, IsPhase, IsRun, is_named, is_known, first_place, by_id, by_search, by_name, target_of, GoesByKey, AreAlike}
 use Rattle.load_model.proofs.Counts.{count_push, count_front}
 use Rattle.load_model.proofs.OneRun.{taken, there}
 use Rattle.load_model.proofs.Machine.{slice_get-drop}
@@ -16,7 +16,7 @@ use Rattle.load_model.proofs.Places.{any_here, any_place, slice_get-take, slice_
 pub same_bytes : (xs ys : List ℕ) → bytes_eq xs ys ≡ true → xs ≡ ys
 same_bytes xs ys h = same_text xs ys (sym h)
 
-pub target_le : (objs : List Object) (c t : ℕ) (f : Found) → IsTarget objs c t f → t ≤ c
+pub target_le : (objs : List Object) (c t : ℕ) (f : Found) → WentTo objs c t f → t ≤ c
 target_le objs c t (Known i) p = let e : t ≡ i = p.0 in let b : i < c = p.1 in omega arith
 target_le objs c t (Brought o) p = let e : t ≡ c = p.0 in omega arith
 
@@ -101,7 +101,7 @@ module _ {X : Type 0} (too_many : X) (limit : ℕ) (search_here search_there : L
         | inr b ↦ (m, a.0, omega arith, a.1, omega arith, omega arith)
       ]
 
-  apart_found : (i' i : ℕ) (a : Asked) (x : Object) (f : Found) → slice_get log i' ≡ Some a → i' ≤ length log → 0 < i → i < a.target → a.target ≡ count_after (take i' log) → slice_get objs i ≡ Some x → key x ≡ a.request.name → target_of too_many limit search_here (take (count_after (take i' log)) objs) (take i' log) a.request ≡ Ok f → IsTarget objs (count_after (take i' log)) a.target f → ⊥
+  apart_found : (i' i : ℕ) (a : Asked) (x : Object) (f : Found) → slice_get log i' ≡ Some a → i' ≤ length log → 0 < i → i < a.target → a.target ≡ count_after (take i' log) → slice_get objs i ≡ Some x → key x ≡ a.request.name → target_of too_many limit search_here (take (count_after (take i' log)) objs) (take i' log) a.request ≡ Ok f → WentTo objs (count_after (take i' log)) a.target f → ⊥
   apart_found i' i a x (Known k) g le some below here gx same is t =
       let e : a.target ≡ k = t.0 in
       let b : k < count_after (take i' log) = t.1 in
@@ -158,7 +158,7 @@ module _ {X : Type 0} (too_many : X) (limit : ℕ) (search_here search_there : L
           | inr t ↦ named_there j n x y gx gy t
         ]
 
-    room : (m : ℕ) (a : Asked) (f : Found) → target_of too_many limit search_here (take (count_after (take m log)) objs) (take m log) a.request ≡ Ok f → IsTarget objs (count_after (take m log)) a.target f → count_after (take m log) ≤ a.target → nat_lt (count_after (take m log)) limit ≡ true
+    room : (m : ℕ) (a : Asked) (f : Found) → target_of too_many limit search_here (take (count_after (take m log)) objs) (take m log) a.request ≡ Ok f → WentTo objs (count_after (take m log)) a.target f → count_after (take m log) ≤ a.target → nat_lt (count_after (take m log)) limit ≡ true
     room m a (Known k) is t past = let e : a.target ≡ k = t.0 in let b : k < count_after (take m log) = t.1 in absurd (omega arith)
     room m a (Brought o) is t past =
         let c = count_after (take m log) in

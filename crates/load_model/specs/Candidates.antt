@@ -94,13 +94,13 @@ has_dollar name = list_any (λ c. c == 36) name
 abbrev pub is_relative : List ℕ → Bool
 is_relative name = cond (begins_at_root name) false (list_any (λ c. c == 47) name)
 
-abbrev pub path_in : Option Object → List ℕ
-path_in None = []
-path_in (Some o) = o.path
+abbrev pub path_by : Option Object → List ℕ
+path_by None = []
+path_by (Some o) = o.path
 
 -- The path of the object that asks.
 abbrev pub asker_path : List Object → Request → List ℕ
-asker_path objs r = path_in (slice_get objs r.by)
+asker_path objs r = path_by (slice_get objs r.by)
 
 unfoldable pub refused_text : List Object → Request → Option LoadRefusal
 refused_text objs r =

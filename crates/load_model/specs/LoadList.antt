@@ -51,9 +51,9 @@ abbrev pub requests_of : List (List ℕ) → ℕ → List Object → List Reques
 requests_of opening i objs = map (λ n. record { by = 0; name = n }) opening ++ needs_from i (drop i objs)
 
 -- the request went to this object: one of the first count, or else the next one
-abbrev pub IsTarget : List Object → ℕ → ℕ → Found → Type 0
-IsTarget objs count t (Known i) = (t ≡ i) × (i < count)
-IsTarget objs count t (Brought o) = (t ≡ count) × (slice_get objs count ≡ Some o)
+abbrev pub WentTo : List Object → ℕ → ℕ → Found → Type 0
+WentTo objs count t (Known i) = (t ≡ i) × (i < count)
+WentTo objs count t (Brought o) = (t ≡ count) × (slice_get objs count ≡ Some o)
 
 -- the second step, unless the first stops
 abbrev pub next : {A B X : Type 0} → Result A X → (A → Result B X) → Result B X
@@ -72,7 +72,7 @@ module _ {X : Type 0} (answer : List Object → List Asked → Request → Resul
     pub asker : a.request.by < count_after before
     pub found : Found
     pub found_is : answer (take (count_after before) objs) before a.request ≡ Ok found
-    pub target : IsTarget objs (count_after before) a.target found
+    pub target : WentTo objs (count_after before) a.target found
 
   -- a part of a phase: what was loaded stays in front; the requests were asked in order up to those that are left; each object is a target
   pub record IsPart (before : Loaded) (opening : List (List ℕ)) (at : Loaded) (left : List Request) : Type 0 where

@@ -41,12 +41,13 @@ suits Plain defined = true
 suits Call defined = defined
 suits Copy defined = true
 
-abbrev pub is_offerable : Class → Sym → Bool
-is_offerable class s = is_bindable s.binding s.kind s.visibility s.value_set && suits class s.defined
+-- a symbol that is open to references of a class: others may bind to it, and the class suits it
+abbrev pub is_open_to : Class → Sym → Bool
+is_open_to class s = is_bindable s.binding s.kind s.visibility s.value_set && suits class s.defined
 
--- an offerable symbol of the name; one of version index 0 never is
+-- an open symbol of the name; one of version index 0 never is
 abbrev pub is_candidate : List ℕ → Class → Sym → Bool
-is_candidate name class s = is_offerable class s && (bytes_eq s.name name && not (is_local s.version))
+is_candidate name class s = is_open_to class s && (bytes_eq s.name name && not (is_local s.version))
 
 -- to a reference with a version: those of that version, and those without one that are not hidden
 abbrev pub has_wanted_version : List ℕ → Sym → Bool

@@ -82,11 +82,11 @@ verneeds_flaw file = first_some (map (verneed_flaw file) (range_with_len 0 (vern
 abbrev pub unknown_index : List (ℕ × ℕ) → ℕ → ℕ → Option Flaw
 unknown_index names symbol index = some_where (nat_lt VER_NDX_GLOBAL index && not (is_some (place_by index names))) (flaw UNKNOWN_INDEX symbol index)
 
-unfoldable pub symbol_flaw : List ℕ → ℕ → Option Flaw
-symbol_flaw file symbol = unknown_index (indexed_names file) symbol (version_index file symbol)
+unfoldable pub index_flaw : List ℕ → ℕ → Option Flaw
+index_flaw file symbol = unknown_index (indexed_names file) symbol (version_index file symbol)
 
 unfoldable pub symbols_version_flaw : ℕ → List ℕ → Option Flaw
-symbols_version_flaw count file = first_some (map (symbol_flaw file) (range_with_len 0 count))
+symbols_version_flaw count file = first_some (map (index_flaw file) (range_with_len 0 count))
 
 -- the first flaw of the versions of a file with so many symbols, of which headers, dynamic table and symbols have none
 unfoldable pub version_flaw : ℕ → List ℕ → Option Flaw

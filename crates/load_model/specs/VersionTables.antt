@@ -7,16 +7,16 @@ use Rattle.std.specs.Option.{option_map, unwrap_or}
 use Rattle.byte_view.specs.Dynamic.{dynamic_entries, string_at, value_of}
 use Rattle.byte_view.specs.DynamicFlaws.{has_bit}
 use Rattle.byte_view.specs.Headers.{headers}
-use Rattle.byte_view.specs.Memory.{memory_bytes, range_in}
-use Rattle.byte_view.specs.Numbers.{number_at}
+use Rattle.byte_view.specs.Memory.{range_in}
 use Rattle.byte_view.specs.declared.constants.TheConstants.{DT_VERSYM, DT_VERDEF, DT_VERDEFNUM, DT_VERNEED, DT_VERNEEDNUM, VER_NDX_LOCAL, VER_NDX_GLOBAL, VERSYM_HIDDEN, VERSYM_VERSION, VER_FLG_WEAK}
+use Rattle.load_model.specs.TableWords.{word_in}
 use Rattle.load_model.specs.declared.asks.Ask.{Ask}
 use Rattle.load_model.specs.declared.symbols.Ver.{Ver}
 use Rattle.load_model.specs.declared.symbols.Ver.TheVariants.{Local, Global, Named}
 
--- the number in n bytes of memory
+-- the number in n bytes of memory: a word there, by the file's own headers
 unfoldable pub memory_number : ℕ → List ℕ → ℕ → ℕ
-memory_number n file at = number_at n (memory_bytes file (headers file) at n) 0
+memory_number n file at = word_in n file (headers file) at
 
 -- where such bytes begin in the file
 unfoldable pub file_place : List ℕ → ℕ → ℕ → ℕ
@@ -85,12 +85,12 @@ abbrev pub dynamic_value : List ℕ → ℕ → Option ℕ
 dynamic_value file tag = value_of tag (dynamic_entries file)
 
 -- how many records a table has: none where there is no table
-abbrev pub count_by : Option ℕ → Option ℕ → ℕ
-count_by table said = cond (is_some table) (unwrap_or said 0) 0
+abbrev pub record_count : Option ℕ → Option ℕ → ℕ
+record_count table said = cond (is_some table) (unwrap_or said 0) 0
 
 -- the definitions, each with its first Verdaux
 abbrev pub verdef_count : List ℕ → ℕ
-verdef_count file = count_by (dynamic_value file DT_VERDEF) (dynamic_value file DT_VERDEFNUM)
+verdef_count file = record_count (dynamic_value file DT_VERDEF) (dynamic_value file DT_VERDEFNUM)
 
 unfoldable pub verdef_place : List ℕ → ℕ → ℕ
 verdef_place file k = record_place (vd_next file) (unwrap_or (dynamic_value file DT_VERDEF) 0) k
@@ -103,7 +103,7 @@ verdaux_of file verdef = verdef + vd_aux file verdef
 
 -- the needs
 abbrev pub verneed_count : List ℕ → ℕ
-verneed_count file = count_by (dynamic_value file DT_VERNEED) (dynamic_value file DT_VERNEEDNUM)
+verneed_count file = record_count (dynamic_value file DT_VERNEED) (dynamic_value file DT_VERNEEDNUM)
 
 unfoldable pub verneed_place : List ℕ → ℕ → ℕ
 verneed_place file k = record_place (vn_next file) (unwrap_or (dynamic_value file DT_VERNEED) 0) k

@@ -1,7 +1,9 @@
 -- Worlds of files, and what kind a path has in one.
-use Rattle.std.specs.Prelude.{ℕ, List, [], ◌∷◌, Bool, cond, not, ◌≡◌, ◌==◌, ◌&&◌, ◌+◌, ◌*◌, nat_le, nat_eq, length, find, Option, Some, None, Result, Ok, Err, slice_get, All}
-use Rattle.std.specs.List.{slice_index, starts_with}
+use Rattle.std.specs.Prelude.{ℕ, List, [], ◌∷◌, Bool, cond, not, ◌≡◌, ◌==◌, ◌&&◌, nat_le, nat_eq, length, find, Option, Some, None, Result, Ok, Err, slice_get, All}
+use Rattle.std.specs.List.{starts_with}
 use Rattle.std.specs.Str.{bytes_eq}
+use Rattle.byte_view.specs.Headers.{e_machine, ei_class, ei_data}
+use Rattle.byte_view.specs.declared.constants.TheConstants.{ELFCLASS64, ELFDATA2LSB}
 use Rattle.path_text.specs.Path.{IsNormalPath}
 use Rattle.load_model.specs.declared.world.WorldFile.{WorldFile}
 
@@ -19,11 +21,12 @@ pub record IsWorld (world : World) : Type 0 where
 abbrev pub file_at : World → List ℕ → Option WorldFile
 file_at world path = find (λ f. bytes_eq f.path path) world
 
--- System V gABI, ELF Identification: EI_CLASS at 4 is ELFCLASS64, EI_DATA at 5 is ELFDATA2LSB; e_machine stands at 18
+-- a file of 64-bit words and of this machine, the lowest byte of a number first (System V gABI, ELF Header)
 abbrev pub is_for : ℕ → List ℕ → Bool
-is_for machine bytes = (slice_index bytes 4 == 2) && ((slice_index bytes 5 == 1) && (slice_index bytes 18 + 256 * slice_index bytes 19 == machine))
+is_for machine bytes =
+    (ei_class bytes == ELFCLASS64) && ((ei_data bytes == ELFDATA2LSB) && (e_machine bytes == machine))
 
--- an object file of another class, data order or machine, which a loader passes over
+-- an object file of another class, data order or machine, which a loader passes over; its 20 bytes reach to e_machine
 abbrev pub is_other : ℕ → List ℕ → Bool
 is_other machine bytes = nat_le 20 (length bytes) && (starts_with nat_eq bytes (127 ∷ 69 ∷ 76 ∷ 70 ∷ []) && not (is_for machine bytes))
 

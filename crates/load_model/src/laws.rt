@@ -15,7 +15,7 @@ ghost use Rattle.load_model.specs.declared.limits.TheConstants.{MOST_OBJECTS};
 ghost use Rattle.load_model.specs.declared.refusals.LoadRefusal.{LoadRefusal};
 ghost use Rattle.load_model.specs.declared.setting.Setting.{Setting};
 
-/// At most one list, with the ends of its phases, is the load list of a program and its opened names.
+/// A program and its opened names have at most one load list, with the ends of its phases.
 pub fn at_most_one_load_list()
     ensures { (read : List ℕ → Result Face Flaw) (setting : Setting) (world : World)
         (path : List ℕ) (opens : List (List ℕ)) (xs ys : Loaded) (xs_ends ys_ends : List Loaded)
@@ -27,7 +27,8 @@ pub fn at_most_one_load_list()
 /// A program has no load list where it stops, and it does not stop in two ways.
 pub fn a_list_or_one_stop()
     ensures list { (read : List ℕ → Result Face Flaw) (setting : Setting) (world : World)
-        (path : List ℕ) (opens : List (List ℕ)) (loaded : Loaded) (ends : List Loaded) (stop : LoadRefusal)
+        (path : List ℕ) (opens : List (List ℕ)) (loaded : Loaded)
+        (ends : List Loaded) (stop : LoadRefusal)
         → IsLoadList read setting world path opens loaded ends
         → IsStopped read setting world path opens stop
         → ⊥ }
@@ -42,14 +43,16 @@ pub fn a_list_or_one_stop()
 pub fn always_a_list_or_a_stop()
     ensures { (read : List ℕ → Result Face Flaw) (setting : Setting) (world : World)
         (path : List ℕ) (opens : List (List ℕ))
-        → ((loaded : Loaded) × (ends : List Loaded) × IsLoadList read setting world path opens loaded ends)
+        → ((loaded : Loaded) × (ends : List Loaded)
+        × IsLoadList read setting world path opens loaded ends)
         ⊎ ((stop : LoadRefusal) × IsStopped read setting world path opens stop) }
 {}
 
 /// What the recursion answers is the load list, with the ends of its phases.
 pub fn recursion_gives_the_list()
     ensures { (read : List ℕ → Result Face Flaw) (setting : Setting) (world : World)
-        (path : List ℕ) (opens : List (List ℕ)) (program : Object) (loaded : Loaded) (ends : List Loaded)
+        (path : List ℕ) (opens : List (List ℕ)) (program : Object)
+        (loaded : Loaded) (ends : List Loaded)
         → program_at read setting world path ≡ Ok program
         → run_by (goes_to read setting world path) MOST_OBJECTS program opens ≡ Ok loaded
         → run_ends (goes_to read setting world path) MOST_OBJECTS program opens ≡ Ok ends
@@ -79,7 +82,8 @@ pub fn list_is_found_by_recursion()
         × (run_ends (goes_to read setting world path) MOST_OBJECTS program opens ≡ Ok ends) }
 {}
 
-/// The objects are the program and the targets of all requests in order, each only at its first occurrence.
+/// The objects are the program and the targets of all requests in order, each at its first
+/// occurrence.
 pub fn objects_are_the_targets()
     ensures { (read : List ℕ → Result Face Flaw) (setting : Setting) (world : World)
         (path : List ℕ) (opens : List (List ℕ)) (loaded : Loaded) (ends : List Loaded)
@@ -100,11 +104,13 @@ pub fn a_name_goes_to_one_object()
     ensures one { (read : List ℕ → Result Face Flaw) (setting : Setting) (world : World)
         (path : List ℕ) (opens : List (List ℕ)) (loaded : Loaded) (ends : List Loaded)
         → IsLoadList read setting world path opens loaded ends
-        → (m : ℕ) (a : Asked) → slice_get loaded.log m ≡ Some a → target_in loaded.log a.request.name ≡ a.target }
+        → (m : ℕ) (a : Asked) → slice_get loaded.log m ≡ Some a
+        → target_in loaded.log a.request.name ≡ a.target }
     ensures loaded { (read : List ℕ → Result Face Flaw) (setting : Setting) (world : World)
         (path : List ℕ) (opens : List (List ℕ)) (loaded : Loaded) (ends : List Loaded)
         → IsLoadList read setting world path opens loaded ends
-        → (m : ℕ) (a : Asked) → slice_get loaded.log m ≡ Some a → a.target < length loaded.objs }
+        → (m : ℕ) (a : Asked) → slice_get loaded.log m ≡ Some a
+        → a.target < length loaded.objs }
 {}
 
 /// At most one list is the local list of a root.
@@ -115,8 +121,8 @@ pub fn at_most_one_local_list()
         → ks ≡ ls }
 {}
 
-/// Where the key of each object finds a file with the same needs, the run has the same order and the same targets. `X` is
-/// why a request has no target.
+/// Where the key of each object finds a file with the same needs, the run has the same order and
+/// the same targets. `X` is why a request has no target.
 pub fn run_in_two_worlds<X>()
     ensures { (too_many : X) (limit : ℕ) (here there : Search X) (key : Object → List ℕ)
         (program program_there : Object) (run : Loaded) (objs_there : List Object)

@@ -3,7 +3,7 @@
 ghost use Rattle.std.specs.Prelude.{◌≡◌, ◌==◌, ◌+◌, ◌<◌, ◌&&◌, IfSome, true, false, length, filter};
 ghost use Rattle.std.specs.List.{list_any, position_from};
 ghost use Rattle.std.specs.Option.{option_copied};
-ghost use Rattle.load_model.specs.Offers.{has_version, has_wanted_version, is_accepted, is_candidate, is_early, is_first_version, is_global, is_local, is_offerable, is_one, is_shown, real_syms, suits};
+ghost use Rattle.load_model.specs.Offers.{has_version, has_wanted_version, is_accepted, is_candidate, is_early, is_first_version, is_global, is_local, is_open_to, is_one, is_shown, real_syms, suits};
 ghost use Rattle.load_model.specs.SymbolWords.{is_bindable, is_found_by_name, is_shared, is_visible};
 
 use crate::{Class, Face, Sym, Ver};
@@ -139,12 +139,12 @@ fn is_shown(s: &Sym, name: &[u8], class: Class) -> bool
 fn is_candidate(s: &Sym, name: &[u8], class: Class) -> bool
     ensures { result ≡ is_candidate name.now class s.now }
 {
-    is_offerable(s, class) && s.name.as_bytes() == name && !is_local(&s.version)
+    is_open_to(s, class) && s.name.as_bytes() == name && !is_local(&s.version)
 }
 
 /// May other objects bind to it, with a reference of this class?
-fn is_offerable(s: &Sym, class: Class) -> bool
-    ensures { result ≡ is_offerable class s.now }
+fn is_open_to(s: &Sym, class: Class) -> bool
+    ensures { result ≡ is_open_to class s.now }
 {
     may_bind(s) && suits(class, s.defined)
 }
