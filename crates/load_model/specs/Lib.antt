@@ -22,3 +22,6 @@ pub mod Scopes
 pub mod Bindings
 pub mod VersionCheck
 pub mod Replays
+pub mod Joined
+pub mod Deciding
+pub mod SameNames
