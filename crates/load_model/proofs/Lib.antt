@@ -15,3 +15,4 @@ pub mod Order
 pub mod Places
 pub mod Selected
 pub mod TwoWorlds
+pub mod DecidingLemmas

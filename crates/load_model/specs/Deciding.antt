@@ -1,8 +1,8 @@
 -- Which candidate of a search decides, and which paths the search opens up to it.
-use Rattle.std.specs.Prelude.{ℕ, List, ◌≡◌, ◌≢◌, ◌<◌, Option, Some, None, Result, slice_get}
+use Rattle.std.specs.Prelude.{ℕ, List, ◌≡◌, ◌≢◌, ◌<◌, Option, Some, None, Result, slice_get, take}
 use Rattle.byte_view.specs.declared.flaws.Flaw.{Flaw}
 use Rattle.load_model.specs.Candidates.{Candidate, At, Refused, candidates, decision, loader_in, refused_text}
-use Rattle.load_model.specs.LoadList.{Object, Request, Asked, first_place, is_known}
+use Rattle.load_model.specs.LoadList.{Object, Request, Asked, Loaded, count_after, first_place, is_known}
 use Rattle.load_model.specs.World.{World, Absent, IsPassed, kind_of}
 use Rattle.load_model.specs.declared.faces.Face.{Face}
 use Rattle.load_model.specs.declared.refusals.LoadRefusal.{LoadRefusal}
@@ -38,3 +38,10 @@ module _ (read : List ℕ → Result Face Flaw) (setting : Setting) (world : Wor
     pub text : refused_text objs r ≡ None
     pub unknown : first_place (is_known log r.name) 0 objs ≡ None
     pub up_to : IsUpToDeciding (candidates setting objs (loader_in log) r) path
+
+  -- So does the request of this number, when so much is loaded and asked as was before it.
+  pub record IsSearchedIn (run : Loaded) (path : List ℕ) : Type 0 where
+    pub number : ℕ
+    pub asked : Asked
+    pub stands : slice_get run.log number ≡ Some asked
+    pub searched : IsSearched (take (count_after (take number run.log)) run.objs) (take number run.log) asked.request path

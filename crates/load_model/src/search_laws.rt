@@ -1,0 +1,53 @@
+//! Laws of the search by candidates, each the contract of a function that does nothing. How a file is read is a parameter.
+
+ghost use Rattle.std.specs.Prelude.{◌≡◌, ◌⊎◌, ℕ, List, None, Some, Result, slice_get};
+ghost use Rattle.byte_view.specs.declared.flaws.Flaw.{Flaw};
+ghost use Rattle.load_model.specs.Candidates.{Candidate, IsOpenedIn, first_decision, opened_among};
+ghost use Rattle.load_model.specs.Deciding.{IsFirstDeciding, IsPassedOver, IsSearchedIn, IsUpToDeciding};
+ghost use Rattle.load_model.specs.LoadList.{Loaded, Object};
+ghost use Rattle.load_model.specs.World.{World};
+ghost use Rattle.load_model.specs.declared.faces.Face.{Face};
+ghost use Rattle.load_model.specs.declared.refusals.LoadRefusal.{LoadRefusal};
+ghost use Rattle.load_model.specs.declared.setting.Setting.{Setting};
+
+/// What is found is what the first candidate decides that is a refused item, or whose kind is neither Absent nor Other;
+/// and nothing is found exactly where every candidate is passed over.
+pub fn first_candidate_decides()
+    ensures decides { (read : List ℕ → Result Face Flaw) (setting : Setting) (world : World)
+        (cs : List Candidate) (decided : Result Object LoadRefusal)
+        → first_decision read setting world cs ≡ Some decided
+        → IsFirstDeciding read setting world cs decided }
+    ensures decided { (read : List ℕ → Result Face Flaw) (setting : Setting) (world : World)
+        (cs : List Candidate) (decided : Result Object LoadRefusal)
+        → IsFirstDeciding read setting world cs decided
+        → first_decision read setting world cs ≡ Some decided }
+    ensures none { (read : List ℕ → Result Face Flaw) (setting : Setting) (world : World)
+        (cs : List Candidate)
+        → first_decision read setting world cs ≡ None
+        → (i : ℕ) (c : Candidate) → slice_get cs i ≡ Some c → IsPassedOver read setting world c }
+    ensures passed { (read : List ℕ → Result Face Flaw) (setting : Setting) (world : World)
+        (cs : List Candidate)
+        → ((i : ℕ) (c : Candidate) → slice_get cs i ≡ Some c → IsPassedOver read setting world c)
+        → first_decision read setting world cs ≡ None }
+{}
+
+/// What a search opens is each candidate where something lies, up to the one that decides; and a run opens the path of
+/// the program and what the searches for its requests open.
+pub fn search_opens_up_to_deciding()
+    ensures only { (read : List ℕ → Result Face Flaw) (setting : Setting) (world : World)
+        (cs : List Candidate) (k : ℕ) (path : List ℕ)
+        → slice_get (opened_among read setting world cs) k ≡ Some path
+        → IsUpToDeciding read setting world cs path }
+    ensures all { (read : List ℕ → Result Face Flaw) (setting : Setting) (world : World)
+        (cs : List Candidate) (path : List ℕ)
+        → IsUpToDeciding read setting world cs path
+        → (k : ℕ) × (slice_get (opened_among read setting world cs) k ≡ Some path) }
+    ensures run_only { (read : List ℕ → Result Face Flaw) (setting : Setting) (world : World)
+        (program : List ℕ) (run : Loaded) (path : List ℕ)
+        → IsOpenedIn read setting world program run path
+        → (path ≡ program) ⊎ IsSearchedIn read setting world run path }
+    ensures run_all { (read : List ℕ → Result Face Flaw) (setting : Setting) (world : World)
+        (program : List ℕ) (run : Loaded) (path : List ℕ)
+        → (path ≡ program) ⊎ IsSearchedIn read setting world run path
+        → IsOpenedIn read setting world program run path }
+{}
