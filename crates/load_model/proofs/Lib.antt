@@ -16,3 +16,4 @@ pub mod Places
 pub mod Selected
 pub mod TwoWorlds
 pub mod DecidingLemmas
+pub mod JoinedLemmas

@@ -1,9 +1,12 @@
 //! Laws of the search by candidates, each the contract of a function that does nothing. How a file is read is a parameter.
 
-ghost use Rattle.std.specs.Prelude.{◌≡◌, ◌⊎◌, ℕ, List, None, Some, Result, slice_get};
+ghost use Rattle.std.specs.Prelude.{◌≡◌, ◌⊎◌, ◌++◌, ◌∷◌, ℕ, IsUtf8, List, None, Some, Ok, Result, slice_get};
 ghost use Rattle.byte_view.specs.declared.flaws.Flaw.{Flaw};
+ghost use Rattle.path_text.specs.FileName.{IsFileName};
+ghost use Rattle.path_text.specs.Path.{IsNormalPath, path_of};
 ghost use Rattle.load_model.specs.Candidates.{Candidate, IsOpenedIn, first_decision, opened_among};
 ghost use Rattle.load_model.specs.Deciding.{IsFirstDeciding, IsPassedOver, IsSearchedIn, IsUpToDeciding};
+ghost use Rattle.load_model.specs.Joined.{joined};
 ghost use Rattle.load_model.specs.LoadList.{Loaded, Object};
 ghost use Rattle.load_model.specs.World.{World};
 ghost use Rattle.load_model.specs.declared.faces.Face.{Face};
@@ -50,4 +53,15 @@ pub fn search_opens_up_to_deciding()
         (program : List ℕ) (run : Loaded) (path : List ℕ)
         → (path ≡ program) ⊎ IsSearchedIn read setting world run path
         → IsOpenedIn read setting world program run path }
+{}
+
+/// A directory joined with a file name is what reading the joined text gives, and it tells which directory it was.
+pub fn joined_is_path()
+    ensures path { (dir name : List ℕ)
+        → IsNormalPath dir → IsFileName name → IsUtf8 name
+        → path_of (dir ++ 47 ∷ name) ≡ Ok (joined dir name) }
+    ensures dir { (d e m n : List ℕ)
+        → IsNormalPath d → IsNormalPath e → IsFileName m → IsFileName n
+        → joined d m ≡ joined e n
+        → d ≡ e }
 {}
