@@ -17,3 +17,4 @@ pub mod Selected
 pub mod TwoWorlds
 pub mod DecidingLemmas
 pub mod JoinedLemmas
+pub mod SameNamesLemmas

@@ -1,6 +1,6 @@
 //! Laws of the search by candidates, each the contract of a function that does nothing. How a file is read is a parameter.
 
-ghost use Rattle.std.specs.Prelude.{◌≡◌, ◌⊎◌, ◌++◌, ◌∷◌, ℕ, IsUtf8, List, None, Some, Ok, Result, slice_get};
+ghost use Rattle.std.specs.Prelude.{◌≡◌, ◌⊎◌, ◌++◌, ◌∷◌, [], ℕ, IsUtf8, List, None, Some, Ok, Result, slice_get};
 ghost use Rattle.byte_view.specs.declared.flaws.Flaw.{Flaw};
 ghost use Rattle.path_text.specs.FileName.{IsFileName};
 ghost use Rattle.path_text.specs.Path.{IsNormalPath, path_of};
@@ -8,10 +8,13 @@ ghost use Rattle.load_model.specs.Candidates.{Candidate, IsOpenedIn, first_decis
 ghost use Rattle.load_model.specs.Deciding.{IsFirstDeciding, IsPassedOver, IsSearchedIn, IsUpToDeciding};
 ghost use Rattle.load_model.specs.Joined.{joined};
 ghost use Rattle.load_model.specs.LoadList.{Loaded, Object};
-ghost use Rattle.load_model.specs.World.{World};
+ghost use Rattle.load_model.specs.Loads.{IsLoadList};
+ghost use Rattle.load_model.specs.SameNames.{IsByNames, IsCarried, LoadsAlike};
+ghost use Rattle.load_model.specs.World.{World, file_at};
 ghost use Rattle.load_model.specs.declared.faces.Face.{Face};
 ghost use Rattle.load_model.specs.declared.refusals.LoadRefusal.{LoadRefusal};
 ghost use Rattle.load_model.specs.declared.setting.Setting.{Setting};
+ghost use Rattle.load_model.specs.declared.world.WorldFile.{WorldFile};
 
 /// What is found is what the first candidate decides that is a refused item, or whose kind is neither Absent nor Other;
 /// and nothing is found exactly where every candidate is passed over.
@@ -64,4 +67,19 @@ pub fn joined_is_path()
         → IsNormalPath d → IsNormalPath e → IsFileName m → IsFileName n
         → joined d m ≡ joined e n
         → d ≡ e }
+{}
+
+/// The same list in two worlds, for any reader of files, any two worlds and any two settings of one machine. Where each
+/// request of a list goes to an object by its name, and the listed directories of another world have an object for each
+/// of these names, a copy of the program loads the same there, and opens nothing else.
+pub fn same_names_load_alike()
+    ensures { (read : List ℕ → Result Face Flaw) (setting setting_there : Setting) (here there : World)
+        (path : List ℕ) (loaded : Loaded) (ends : List Loaded)
+        (start : WorldFile) (place name : List ℕ) (copy : WorldFile)
+        → IsLoadList read setting here path [] loaded ends
+        → IsByNames loaded
+        → file_at here path ≡ Some start
+        → setting_there.machine ≡ setting.machine
+        → IsCarried read setting_there there start loaded.objs place name copy
+        → LoadsAlike read setting_there there loaded copy }
 {}
