@@ -25,3 +25,4 @@ pub mod Replays
 pub mod Joined
 pub mod Deciding
 pub mod SameNames
+pub mod Expansions

@@ -1,14 +1,16 @@
 //! Laws of the search by candidates, each the contract of a function that does nothing. How a file is read is a parameter.
 
-ghost use Rattle.std.specs.Prelude.{◌≡◌, ◌⊎◌, ◌++◌, ◌∷◌, [], ℕ, IsUtf8, List, None, Some, Ok, Result, slice_get};
+ghost use Rattle.std.specs.Prelude.{◌≡◌, ◌⊎◌, ◌++◌, ◌∷◌, [], ℕ, IsUtf8, List, None, Some, Ok, Result, codes, slice_get};
 ghost use Rattle.byte_view.specs.declared.flaws.Flaw.{Flaw};
 ghost use Rattle.path_text.specs.FileName.{IsFileName};
 ghost use Rattle.path_text.specs.Path.{IsNormalPath, path_of};
 ghost use Rattle.load_model.specs.Candidates.{Candidate, IsOpenedIn, first_decision, opened_among};
 ghost use Rattle.load_model.specs.Deciding.{IsFirstDeciding, IsPassedOver, IsSearchedIn, IsUpToDeciding};
+ghost use Rattle.load_model.specs.Expansions.{folder, with_lib, with_platform};
 ghost use Rattle.load_model.specs.Joined.{joined};
 ghost use Rattle.load_model.specs.LoadList.{Loaded, Object};
 ghost use Rattle.load_model.specs.Loads.{IsLoadList};
+ghost use Rattle.load_model.specs.RunPaths.{Folder, Relative, Unset, items_of};
 ghost use Rattle.load_model.specs.SameNames.{IsByNames, IsCarried, LoadsAlike};
 ghost use Rattle.load_model.specs.World.{World, file_at};
 ghost use Rattle.load_model.specs.declared.faces.Face.{Face};
@@ -82,4 +84,25 @@ pub fn same_names_load_alike()
         → setting_there.machine ≡ setting.machine
         → IsCarried read setting_there there start loaded.objs place name copy
         → LoadsAlike read setting_there there loaded copy }
+{}
+
+/// Worked items of run paths of an object in /opt/app/bin. A `$` that spells no token stays, and reading goes on behind
+/// it; empty items are left out.
+pub fn items_are_expanded()
+    ensures origin { items_of with_lib folder (codes "$ORIGIN/../lib") ≡ Folder (codes "/opt/app/bin/../lib") ∷ [] }
+    ensures braces { items_of with_lib folder (codes "${ORIGIN}x") ≡ Folder (codes "/opt/app/binx") ∷ [] }
+    ensures longer_word { items_of with_lib folder (codes "$ORIGINx") ≡ Relative (codes "$ORIGINx") ∷ [] }
+    ensures lib { items_of with_lib folder (codes "/usr/$LIB/app") ≡ Folder (codes "/usr/lib64/app") ∷ [] }
+    ensures lib_relative { items_of with_lib folder (codes "$LIB") ≡ Relative (codes "$LIB") ∷ [] }
+    ensures lib_unset { items_of with_platform folder (codes "/usr/$LIB/app") ≡ Unset (codes "/usr/$LIB/app") ∷ [] }
+    ensures platform { items_of with_platform folder (codes "/usr/${PLATFORM}") ≡ Folder (codes "/usr/haswell") ∷ [] }
+    ensures platform_unset { items_of with_lib folder (codes "/usr/${PLATFORM}") ≡ Unset (codes "/usr/${PLATFORM}") ∷ [] }
+    ensures inner { items_of with_lib folder (codes "/${X$ORIGIN}") ≡ Folder (codes "/${X/opt/app/bin}") ∷ [] }
+    ensures twice { items_of with_lib folder (codes "/$$ORIGIN") ≡ Folder (codes "/$/opt/app/bin") ∷ [] }
+    ensures twice_relative { items_of with_lib folder (codes "$$ORIGIN") ≡ Relative (codes "$$ORIGIN") ∷ [] }
+    ensures last { items_of with_lib folder (codes "/a$") ≡ Folder (codes "/a$") ∷ [] }
+    ensures last_relative { items_of with_lib folder (codes "a$") ≡ Relative (codes "a$") ∷ [] }
+    ensures empty { items_of with_lib folder [] ≡ [] }
+    ensures colons { items_of with_lib folder (codes ":/a::$ORIGIN:")
+        ≡ Folder (codes "/a") ∷ Folder (codes "/opt/app/bin") ∷ [] }
 {}
