@@ -18,3 +18,4 @@ pub mod TwoWorlds
 pub mod DecidingLemmas
 pub mod JoinedLemmas
 pub mod SameNamesLemmas
+pub mod Texts

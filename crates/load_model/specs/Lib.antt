@@ -26,3 +26,5 @@ pub mod Joined
 pub mod Deciding
 pub mod SameNames
 pub mod Expansions
+pub mod Diamond
+pub mod SmallHost

@@ -1,20 +1,23 @@
 //! Laws of the search by candidates, each the contract of a function that does nothing. How a file is read is a parameter.
 
-ghost use Rattle.std.specs.Prelude.{◌≡◌, ◌⊎◌, ◌++◌, ◌∷◌, [], ℕ, IsUtf8, List, None, Some, Ok, Result, codes, slice_get};
+ghost use Rattle.std.specs.Prelude.{◌≡◌, ◌⊎◌, ◌++◌, ◌∷◌, [], ℕ, IsUtf8, List, None, Some, Ok, Err, Result, codes, slice_get};
 ghost use Rattle.byte_view.specs.declared.flaws.Flaw.{Flaw};
 ghost use Rattle.path_text.specs.FileName.{IsFileName};
 ghost use Rattle.path_text.specs.Path.{IsNormalPath, path_of};
-ghost use Rattle.load_model.specs.Candidates.{Candidate, IsOpenedIn, first_decision, opened_among};
+ghost use Rattle.load_model.specs.Candidates.{Candidate, IsOpenedIn, first_decision, opened_among, path_search};
 ghost use Rattle.load_model.specs.Deciding.{IsFirstDeciding, IsPassedOver, IsSearchedIn, IsUpToDeciding};
+ghost use Rattle.load_model.specs.Diamond.{broken, diamond, diamond_run, program as diamond_program, program_path, read_number, setting};
 ghost use Rattle.load_model.specs.Expansions.{folder, with_lib, with_platform};
 ghost use Rattle.load_model.specs.Joined.{joined};
-ghost use Rattle.load_model.specs.LoadList.{Loaded, Object};
-ghost use Rattle.load_model.specs.Loads.{IsLoadList};
+ghost use Rattle.load_model.specs.LoadList.{Loaded, Object, run as run_by, target_of};
+ghost use Rattle.load_model.specs.Loads.{IsLoadList, goes_to, program_at};
 ghost use Rattle.load_model.specs.RunPaths.{Folder, Relative, Unset, items_of};
 ghost use Rattle.load_model.specs.SameNames.{IsByNames, IsCarried, LoadsAlike};
+ghost use Rattle.load_model.specs.SmallHost.{copy as small_copy, here as small_here, host, loaded as small_loaded, place as apps, read_small, setting_here, setting_host, start};
 ghost use Rattle.load_model.specs.World.{World, file_at};
 ghost use Rattle.load_model.specs.declared.faces.Face.{Face};
 ghost use Rattle.load_model.specs.declared.refusals.LoadRefusal.{LoadRefusal};
+ghost use Rattle.load_model.specs.declared.refusals.LoadRefusal.TheVariants.{MissingLibrary, TooManyObjects};
 ghost use Rattle.load_model.specs.declared.setting.Setting.{Setting};
 ghost use Rattle.load_model.specs.declared.world.WorldFile.{WorldFile};
 
@@ -105,4 +108,27 @@ pub fn items_are_expanded()
     ensures empty { items_of with_lib folder [] ≡ [] }
     ensures colons { items_of with_lib folder (codes ":/a::$ORIGIN:")
         ≡ Folder (codes "/a") ∷ Folder (codes "/opt/app/bin") ∷ [] }
+{}
+
+/// A worked list: breadth-first, each object once, opened names last; a missing library with the path of its asker; the
+/// limit.
+pub fn diamond_loads_breadth_first()
+    ensures program { program_at read_number setting diamond program_path ≡ Ok diamond_program }
+    ensures order { run_by (goes_to read_number setting diamond program_path) 5 diamond_program (codes "d" ∷ [])
+        ≡ Ok diamond_run }
+    ensures missing { run_by (goes_to read_number setting broken program_path) 5 diamond_program (codes "d" ∷ [])
+        ≡ Err (MissingLibrary (codes "c") (codes "/app/lib/a")) }
+    ensures limit { run_by (target_of (TooManyObjects program_path) 4 (path_search read_number setting diamond)) 4
+        diamond_program (codes "d" ∷ [])
+        ≡ Err (TooManyObjects program_path) }
+{}
+
+/// The premises of the same list in two worlds can be met: by a program with one library, and a host that has the library
+/// in another directory, as another file.
+pub fn small_host_loads_alike()
+    ensures list { IsLoadList read_small setting_here small_here start.path [] small_loaded (small_loaded ∷ []) }
+    ensures by_names { IsByNames small_loaded }
+    ensures starts { file_at small_here start.path ≡ Some start }
+    ensures machine { setting_host.machine ≡ setting_here.machine }
+    ensures carried { IsCarried read_small setting_host host start small_loaded.objs apps (codes "AppRun") small_copy }
 {}
