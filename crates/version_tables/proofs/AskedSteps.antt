@@ -6,7 +6,7 @@ use Rattle.byte_view.specs.declared.flaws.Flaw.{Flaw}
 use Rattle.load_model.specs.VersionFlaws.{bad_next, bad_text, bad_vernaux, vernaux_flaw, vernaux_flaw_at, vernauxs_flaw}
 use Rattle.load_model.specs.VersionTables.{vernaux_place, vn_aux, vn_cnt, vna_name, vna_next}
 use Rattle.version_tables.specs.Records.{asked_at, asked_with, vernaux_words, verneed_words}
-use Rattle.version_tables.specs.Walks.{asked_by, asked_of, from_on}
+use Rattle.version_tables.specs.Walks.{asked_of_record, asked_of, from_on}
 use Rattle.version_tables.specs.declared.asked.Asked.{Asked}
 use Rattle.version_tables.specs.declared.records.Vernaux.{Vernaux}
 use Rattle.version_tables.specs.declared.records.Verneed.{Verneed}
@@ -27,8 +27,8 @@ pub vernauxs_left : (file : List ℕ) (at said : ℕ) → said ≡ vn_cnt file a
 unfolding vernauxs_flaw
 vernauxs_left file at said e = rw e (ap first_some (from_on_all (vernaux_flaw file at) (vn_cnt file at)))
 
-pub asked_left : (file : List ℕ) (number at said : ℕ) (done : List Asked) → said ≡ vn_cnt file at → done ++ from_on (asked_of file number at) 0 said ≡ done ++ asked_by file number at
-unfolding asked_by
+pub asked_left : (file : List ℕ) (number at said : ℕ) (done : List Asked) → said ≡ vn_cnt file at → done ++ from_on (asked_of file number at) 0 said ≡ done ++ asked_of_record file number at
+unfolding asked_of_record
 asked_left file number at said done e = rw e refl
 
 -- the checks of a Vernaux are those of its number

@@ -6,7 +6,7 @@ use Rattle.load_model.specs.VersionTables.{ask_needs_of, ask_of, asks_of, aux_pl
 use Rattle.version_tables.specs.Indexes.{name_in_asked, name_in_definition}
 use Rattle.version_tables.specs.Records.{asked_at, definition_at}
 use Rattle.version_tables.specs.VersionLists.{ask_in, places_in}
-use Rattle.version_tables.specs.Walks.{asked_by, asked_of, asked_of_need, definition_of, file_word_of, from_on, lists_from}
+use Rattle.version_tables.specs.Walks.{asked_of_record, asked_of, asked_of_need, definition_of, file_word_of, from_on, lists_from}
 use Rattle.version_tables.specs.declared.asked.Asked.{Asked}
 use Rattle.version_tables.specs.declared.definitions.Definition.{Definition}
 use Rattle.version_tables.proofs.Walks.{from_on_all}
@@ -58,7 +58,7 @@ abbrev kept_ask : List ℕ → ℕ × ℕ → Asked
 kept_ask file a = asked_at file a.0 (verneed_place file a.0) a.1
 
 need_asks : (file : List ℕ) (k : ℕ) → map (kept_ask file) (map (λ vernaux. (k, vernaux)) (vernauxs_of file (verneed_place file k))) ≡ asked_of_need file k
-unfolding asked_of_need asked_by asked_of
+unfolding asked_of_need asked_of_record asked_of
 need_asks file k =
     map_twice (kept_ask file) (λ vernaux. (k, vernaux)) (asked_at file k (verneed_place file k)) (vernauxs_of file (verneed_place file k)) (λ at. refl)
     ∙ (map_twice (asked_at file k (verneed_place file k)) (vernaux_place file (verneed_place file k)) (asked_of file k (verneed_place file k)) (range_with_len 0 (vn_cnt file (verneed_place file k))) (λ j. refl)

@@ -6,7 +6,7 @@ use Rattle.byte_view.specs.declared.flaws.Flaw.{Flaw}
 use Rattle.load_model.specs.VersionFlaws.{verneed_flaw, verneed_flaw_at, verneeds_flaw}
 use Rattle.load_model.specs.VersionTables.{file_place, verneed_count, verneed_place, vn_next}
 use Rattle.version_tables.specs.Records.{verneed_words}
-use Rattle.version_tables.specs.Walks.{asked_by, asked_of_need, file_word_of, from_on}
+use Rattle.version_tables.specs.Walks.{asked_of_record, asked_of_need, file_word_of, from_on}
 use Rattle.version_tables.specs.declared.records.Verneed.{Verneed}
 use Rattle.version_tables.proofs.Places.{next_verneed}
 use Rattle.version_tables.proofs.Walks.{from_on_all}
@@ -22,9 +22,9 @@ verneed_here file k at e = ap (verneed_flaw_at file k) e
 pub verneed_named : (file : List ℕ) (k at : ℕ) (o : Option Flaw) → at ≡ verneed_place file k → Names o (verneed_flaw_at file k at) → Names o (verneed_flaw file k)
 verneed_named file k at o e h = subst (λ (x : Option Flaw). Names o x) (verneed_here file k at e) h
 
-pub asked_by_here : (file : List ℕ) (k at : ℕ) → at ≡ verneed_place file k → asked_by file k at ≡ asked_of_need file k
+pub asked_by_here : (file : List ℕ) (k at : ℕ) → at ≡ verneed_place file k → asked_of_record file k at ≡ asked_of_need file k
 unfolding asked_of_need
-asked_by_here file k at e = ap (asked_by file k) e
+asked_by_here file k at e = ap (asked_of_record file k) e
 
 pub file_word_here : (file : List ℕ) (k at : ℕ) (v : Verneed) → at ≡ verneed_place file k → v ≡ verneed_words file at → v.place + 4 ≡ file_word_of file k
 unfolding file_word_of verneed_words

@@ -5,6 +5,6 @@ use Rattle.version_tables.specs.declared.faults.VersionFault.{VersionFault}
 use Rattle.version_tables.specs.declared.faults.VersionFault.TheVariants.{Flawed, NoMemory}
 
 -- want of memory names none
-abbrev pub flaw_of : VersionFault → Option Flaw
-flaw_of (Flawed f) = Some f
-flaw_of NoMemory = None
+abbrev pub version_fault_flaw : VersionFault → Option Flaw
+version_fault_flaw (Flawed f) = Some f
+version_fault_flaw NoMemory = None

@@ -1,14 +1,21 @@
 -- The names of version indexes, looked up by index
-use Rattle.std.specs.Prelude.{ℕ, ◌<◌, ◌≡◌, cond, not, ◌&&◌, List, Option, Some, None, is_some, nat_lt, fold, slice_index, slice_index_or, slice_set}
+use Rattle.std.specs.Prelude.{ℕ, ◌+◌, ◌<◌, ◌≡◌, cond, not, ◌&&◌, List, Option, Some, None, is_some, nat_lt, fold, slice_index, slice_index_or, slice_set}
 use Rattle.answers.specs.First.{some_where}
 use Rattle.byte_view.specs.Checks.{flaw}
-use Rattle.byte_view.specs.declared.constants.TheConstants.{VER_NDX_GLOBAL}
+use Rattle.byte_view.specs.declared.constants.TheConstants.{DT_VERSYM, VER_NDX_GLOBAL, VERSYM_VERSION}
 use Rattle.byte_view.specs.declared.flaws.Flaw.{Flaw}
 use Rattle.byte_view.specs.declared.flaws.TheConstants.{UNKNOWN_INDEX}
-use Rattle.load_model.specs.VersionTables.{index_in, is_versioned, place_by, version_by, versym_word}
+use Rattle.load_model.specs.VersionTables.{dynamic_value, index_in, is_versioned, place_by, version_by, versym_word}
 use Rattle.load_model.specs.declared.symbols.Ver.{Ver}
 use Rattle.version_tables.specs.declared.asked.Asked.{Asked}
 use Rattle.version_tables.specs.declared.definitions.Definition.{Definition}
+
+-- how many version indexes the symbols may have, by where their table is; without it none is looked up
+abbrev pub index_count_by : Option ℕ → ℕ
+index_count_by versym = cond (is_some versym) (VERSYM_VERSION + 1) 0
+
+abbrev pub index_count : List ℕ → ℕ
+index_count file = index_count_by (dynamic_value file DT_VERSYM)
 
 -- a name is noted for an index that has none
 unfoldable pub noted : List (Option ℕ) → ℕ × ℕ → List (Option ℕ)

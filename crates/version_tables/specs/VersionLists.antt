@@ -57,7 +57,7 @@ lists_in file words places definitions file_words asks = record {
 }
 
 -- what is kept of all tables
-pub record AreTablesOf (words : List ℕ) (definitions : List Definition) (file_words : List ℕ) (asks : List Asked) (count : ℕ) (file : List ℕ) : Type 0 where
+pub record AreVersionTablesOf (words : List ℕ) (definitions : List Definition) (file_words : List ℕ) (asks : List Asked) (count : ℕ) (file : List ℕ) : Type 0 where
   pub symbol_words : words ≡ map (symbol_word file) (range_with_len 0 count)
   pub kept_definitions : definitions ≡ from_on (definition_of file) 0 (verdef_count file)
   pub kept_words : file_words ≡ from_on (file_word_of file) 0 (verneed_count file)

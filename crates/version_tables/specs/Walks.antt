@@ -23,11 +23,11 @@ unfoldable pub asked_of : List ℕ → ℕ → ℕ → ℕ → Asked
 asked_of file number verneed j = asked_at file number verneed (vernaux_place file verneed j)
 
 -- of all Vernaux of the need at an address, and of need k
-unfoldable pub asked_by : List ℕ → ℕ → ℕ → List Asked
-asked_by file number verneed = from_on (asked_of file number verneed) 0 (vn_cnt file verneed)
+unfoldable pub asked_of_record : List ℕ → ℕ → ℕ → List Asked
+asked_of_record file number verneed = from_on (asked_of file number verneed) 0 (vn_cnt file verneed)
 
 unfoldable pub asked_of_need : List ℕ → ℕ → List Asked
-asked_of_need file k = asked_by file k (verneed_place file k)
+asked_of_need file k = asked_of_record file k (verneed_place file k)
 
 -- the file place of the vn_file word of need k
 unfoldable pub file_word_of : List ℕ → ℕ → ℕ

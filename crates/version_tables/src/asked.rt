@@ -8,9 +8,9 @@ ghost use Rattle.byte_view.specs.Sound.{IsReadFrom};
 ghost use Rattle.byte_view.specs.declared.constants.TheConstants.{HIGHEST_END};
 ghost use Rattle.load_model.specs.VersionFlaws.{bad_next, bad_text, bad_vernaux, vernauxs_flaw};
 ghost use Rattle.load_model.specs.VersionTables.{vna_name, vna_next};
-ghost use Rattle.version_tables.specs.Faults.{flaw_of};
+ghost use Rattle.version_tables.specs.Faults.{version_fault_flaw};
 ghost use Rattle.version_tables.specs.Records.{asked_with, vernaux_words, verneed_words};
-ghost use Rattle.version_tables.specs.Walks.{asked_by};
+ghost use Rattle.version_tables.specs.Walks.{asked_of_record};
 
 use crate::chains::check_next;
 use crate::faults::{VersionFault, flawed};
@@ -50,7 +50,7 @@ fn good_vernaux(
     requires headers { IsReadFrom elf.now bytes.now }
     requires strings { size ≡ strings_size (dynamic_entries bytes.now) }
     requires turn { j < HIGHEST_END }
-    ensures flaw { TellsBy flaw_of result (first_some (bad_vernaux bytes.now at ∷ bad_text bytes.now (vna_name bytes.now at) ∷ bad_next said j (vna_next bytes.now at) ∷ [])) }
+    ensures flaw { TellsBy version_fault_flaw result (first_some (bad_vernaux bytes.now at ∷ bad_text bytes.now (vna_name bytes.now at) ∷ bad_next said j (vna_next bytes.now at) ∷ [])) }
     ensures words { IfOk result (λ v. v ≡ vernaux_words bytes.now at) }
     ensures limit { IfOk result (λ _. at + 16 ≤ HIGHEST_END) }
 {
@@ -92,8 +92,8 @@ pub(crate) fn read_asked(
     requires strings { size ≡ strings_size (dynamic_entries bytes.now) }
     requires words { verneed.now ≡ verneed_words bytes.now at }
     requires limit { at + 16 ≤ HIGHEST_END }
-    ensures flaw { TellsBy flaw_of result (vernauxs_flaw bytes.now at) }
-    ensures kept { OnOk result (asks.new.items ≡ asks.old.items ++ asked_by bytes.now number at) }
+    ensures flaw { TellsBy version_fault_flaw result (vernauxs_flaw bytes.now at) }
+    ensures kept { OnOk result (asks.new.items ≡ asks.old.items ++ asked_of_record bytes.now number at) }
 {
     let said = u64::from(verneed.cnt);
     let mut aux_at = at + u64::from(verneed.aux);

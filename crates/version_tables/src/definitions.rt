@@ -9,7 +9,7 @@ ghost use Rattle.byte_view.specs.declared.constants.TheConstants.{DT_VERDEF, DT_
 ghost use Rattle.dyn_table.specs.Table.{IsTableOf};
 ghost use Rattle.load_model.specs.VersionFlaws.{bad_verdaux, bad_verdef, verdef_flaw_at, verdefs_flaw};
 ghost use Rattle.load_model.specs.VersionTables.{count_by, verdef_count};
-ghost use Rattle.version_tables.specs.Faults.{flaw_of};
+ghost use Rattle.version_tables.specs.Faults.{version_fault_flaw};
 ghost use Rattle.version_tables.specs.Records.{definition_at, verdaux_words, verdef_words};
 ghost use Rattle.version_tables.specs.Walks.{definition_of, from_on};
 
@@ -43,7 +43,7 @@ pub(crate) struct Definition {
 #[tactic(auto, unfolding(crate::specs::Records::verdef_words))]
 fn good_verdef(elf: &Elf, bytes: &[u8], at: u64) -> Result<Verdef, VersionFault>
     requires { IsReadFrom elf.now bytes.now }
-    ensures flaw { TellsBy flaw_of result (bad_verdef bytes.now at) }
+    ensures flaw { TellsBy version_fault_flaw result (bad_verdef bytes.now at) }
     ensures words { IfOk result (λ v. v ≡ verdef_words bytes.now at) }
     ensures limit { IfOk result (λ _. at + 20 ≤ HIGHEST_END) }
 {
@@ -59,7 +59,7 @@ fn good_verdef(elf: &Elf, bytes: &[u8], at: u64) -> Result<Verdef, VersionFault>
 /// The Verdaux at an address, if it is one.
 fn good_verdaux(elf: &Elf, bytes: &[u8], at: u64) -> Result<Verdaux, VersionFault>
     requires { IsReadFrom elf.now bytes.now }
-    ensures flaw { TellsBy flaw_of result (bad_verdaux bytes.now at) }
+    ensures flaw { TellsBy version_fault_flaw result (bad_verdaux bytes.now at) }
     ensures words { IfOk result (λ v. v ≡ verdaux_words bytes.now at) }
 {
     match verdaux_at(elf, bytes, at) {
@@ -83,7 +83,7 @@ fn definition_at(
     requires strings { size ≡ strings_size (dynamic_entries bytes.now) }
     requires count { said ≡ verdef_count bytes.now }
     requires turn { k ≤ at }
-    ensures flaw { TellsBy flaw_of result (verdef_flaw_at bytes.now k at) }
+    ensures flaw { TellsBy version_fault_flaw result (verdef_flaw_at bytes.now k at) }
     ensures value { IfOk result (λ d. d ≡ definition_at bytes.now at) }
     ensures limit { IfOk result (λ d. at + 20 ≤ HIGHEST_END) }
     ensures step { IfOk result (λ d. k + 1 < said → 0 < d.next) }
@@ -130,7 +130,7 @@ pub(crate) fn read_definitions(
 ) -> Result<Vec<Definition>, VersionFault>
     requires headers { IsReadFrom elf.now bytes.now }
     requires table { IsTableOf table.now bytes.now }
-    ensures flaw { TellsBy flaw_of result (verdefs_flaw bytes.now) }
+    ensures flaw { TellsBy version_fault_flaw result (verdefs_flaw bytes.now) }
     ensures kept { IfOk result (λ definitions. definitions.items ≡ from_on (definition_of bytes.now) 0 (verdef_count bytes.now)) }
 {
     let entries = table.entries();

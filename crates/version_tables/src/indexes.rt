@@ -2,11 +2,25 @@
 
 ghost use Rattle.std.specs.Prelude.{◌≡◌, ◌++◌, None, map, IfOk};
 ghost use Rattle.std.specs.List.{range_with_len};
-ghost use Rattle.version_tables.specs.Indexes.{AreFirst, all_noted, name_in_asked, name_in_definition, noted, place_in};
+ghost use Rattle.byte_view.specs.Dynamic.{value_of};
+ghost use Rattle.version_tables.specs.Indexes.{AreFirst, all_noted, index_count_by, name_in_asked, name_in_definition, noted, place_in};
 
 use crate::asked::Asked;
 use crate::definitions::Definition;
+use byte_view::Entry;
+use byte_view::constants::{DT_VERSYM, VERSYM_VERSION};
+use dyn_table::value_of;
 use std::alloc::{AllocError, Global};
+
+/// How many version indexes the symbols may have. Without a table of them none is looked up.
+pub(crate) fn index_count(entries: &[Entry]) -> usize
+    ensures { result ≡ index_count_by (value_of DT_VERSYM entries.now) }
+{
+    match value_of(DT_VERSYM, entries) {
+        Some(_) => usize::from(VERSYM_VERSION) + 1,
+        None => 0,
+    }
+}
 
 /// Notes the string place of a name for an index that has none.
 #[tactic(auto, unfolding(crate::specs::Indexes::noted))]

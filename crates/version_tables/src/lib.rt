@@ -23,4 +23,4 @@ mod versions;
 
 pub use faults::VersionFault;
 pub use laws::{records_follow_one_another, records_lie_at_sums};
-pub use versions::Versions;
+pub use versions::{VersionParts, Versions};

@@ -12,7 +12,7 @@ use crate::indexes::place_in;
 use crate::tables::text_of;
 use byte_view::constants::{VER_NDX_GLOBAL, VER_NDX_LOCAL, VERSYM_VERSION};
 use dyn_table::Dyn;
-use load_model::{Ask, Name, NoMemory, Ver};
+use load_model::{Ask, List, Name, NoMemory, Ver};
 use std::alloc::{AllocError, Global};
 
 /// The name at a string place.
@@ -98,16 +98,13 @@ pub(crate) fn definition_names(
     table: &Dyn,
     bytes: &[u8],
     definitions: &[Definition],
-) -> Result<Vec<Name>, NoMemory>
+) -> Result<List<Name>, NoMemory>
     requires { IsTableOf table.now bytes.now }
-    ensures { IfOk result (λ names. names.items ≡ map (λ d. text_of bytes.now d.name) definitions.now) }
+    ensures { IfOk result (λ names. names ≡ map (λ d. text_of bytes.now d.name) definitions.now) }
 {
-    let mut names = Vec::new(alloc);
+    let mut names = List::new(alloc);
     for definition in definitions {
-        let name = name_at(alloc, table, bytes, definition.name)?;
-        let Ok(()) = names.push(name) else {
-            return Err(NoMemory);
-        };
+        names.push(name_at(alloc, table, bytes, definition.name)?)?;
     }
     Ok(names)
 }
@@ -129,16 +126,13 @@ pub(crate) fn named_asks(
     table: &Dyn,
     bytes: &[u8],
     asks: &[Asked],
-) -> Result<Vec<Ask>, NoMemory>
+) -> Result<List<Ask>, NoMemory>
     requires { IsTableOf table.now bytes.now }
-    ensures { IfOk result (λ named. named.items ≡ map (ask_in bytes.now) asks.now) }
+    ensures { IfOk result (λ named. named ≡ map (ask_in bytes.now) asks.now) }
 {
-    let mut named = Vec::new(alloc);
+    let mut named = List::new(alloc);
     for asked in asks {
-        let ask = ask_in(alloc, table, bytes, asked)?;
-        let Ok(()) = named.push(ask) else {
-            return Err(NoMemory);
-        };
+        named.push(ask_in(alloc, table, bytes, asked)?)?;
     }
     Ok(named)
 }

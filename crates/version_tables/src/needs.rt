@@ -10,9 +10,9 @@ ghost use Rattle.byte_view.specs.declared.constants.TheConstants.{DT_VERNEED, DT
 ghost use Rattle.dyn_table.specs.Table.{IsTableOf};
 ghost use Rattle.load_model.specs.VersionFlaws.{bad_text, bad_verneed, verneed_flaw_at, verneeds_flaw};
 ghost use Rattle.load_model.specs.VersionTables.{count_by, verneed_count, vn_file};
-ghost use Rattle.version_tables.specs.Faults.{flaw_of};
+ghost use Rattle.version_tables.specs.Faults.{version_fault_flaw};
 ghost use Rattle.version_tables.specs.Records.{verneed_words};
-ghost use Rattle.version_tables.specs.Walks.{asked_by, asked_of_need, file_word_of, from_on, lists_from};
+ghost use Rattle.version_tables.specs.Walks.{asked_of_record, asked_of_need, file_word_of, from_on, lists_from};
 
 use crate::asked::{Asked, read_asked};
 use crate::chains::check_next;
@@ -40,7 +40,7 @@ pub(crate) struct Needs {
 fn good_verneed(elf: &Elf, bytes: &[u8], size: u64, at: u64) -> Result<Verneed, VersionFault>
     requires headers { IsReadFrom elf.now bytes.now }
     requires strings { size ≡ strings_size (dynamic_entries bytes.now) }
-    ensures flaw { TellsBy flaw_of result (first_some (bad_verneed bytes.now at ∷ bad_text bytes.now (vn_file bytes.now at) ∷ [])) }
+    ensures flaw { TellsBy version_fault_flaw result (first_some (bad_verneed bytes.now at ∷ bad_text bytes.now (vn_file bytes.now at) ∷ [])) }
     ensures words { IfOk result (λ v. v ≡ verneed_words bytes.now at) }
     ensures limit { IfOk result (λ _. at + 16 ≤ HIGHEST_END) }
     ensures within { IfOk result (λ v. v.place + 16 ≤ length bytes.now) }
@@ -70,8 +70,8 @@ fn read_need(
     requires strings { size ≡ strings_size (dynamic_entries bytes.now) }
     requires count { said ≡ verneed_count bytes.now }
     requires turn { k ≤ at }
-    ensures flaw { TellsBy flaw_of result (verneed_flaw_at bytes.now k at) }
-    ensures kept { IfOk result (λ _. asks.new.items ≡ asks.old.items ++ asked_by bytes.now k at) }
+    ensures flaw { TellsBy version_fault_flaw result (verneed_flaw_at bytes.now k at) }
+    ensures kept { IfOk result (λ _. asks.new.items ≡ asks.old.items ++ asked_of_record bytes.now k at) }
     ensures words { IfOk result (λ v. v ≡ verneed_words bytes.now at) }
     ensures limit { IfOk result (λ _. at + 16 ≤ HIGHEST_END) }
     ensures within { IfOk result (λ v. v.place + 16 ≤ length bytes.now) }
@@ -115,7 +115,7 @@ pub(crate) fn read_needs(
 ) -> Result<Needs, VersionFault>
     requires headers { IsReadFrom elf.now bytes.now }
     requires table { IsTableOf table.now bytes.now }
-    ensures flaw { TellsBy flaw_of result (verneeds_flaw bytes.now) }
+    ensures flaw { TellsBy version_fault_flaw result (verneeds_flaw bytes.now) }
     ensures file_words { IfOk result (λ needs. needs.file_words.items ≡ from_on (file_word_of bytes.now) 0 (verneed_count bytes.now)) }
     ensures asks { IfOk result (λ needs. needs.asks.items ≡ lists_from (asked_of_need bytes.now) 0 (verneed_count bytes.now)) }
 {

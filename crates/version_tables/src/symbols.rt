@@ -12,7 +12,7 @@ ghost use Rattle.byte_view.specs.declared.constants.TheConstants.{VER_NDX_GLOBAL
 ghost use Rattle.dyn_table.specs.Table.{IsTableOf};
 ghost use Rattle.load_model.specs.VersionFlaws.{bad_versym, is_unbacked};
 ghost use Rattle.load_model.specs.VersionTables.{memory_number};
-ghost use Rattle.version_tables.specs.Faults.{flaw_of};
+ghost use Rattle.version_tables.specs.Faults.{version_fault_flaw};
 ghost use Rattle.version_tables.specs.Indexes.{symbol_word, unknown_at, unknown_word};
 ghost use Rattle.version_tables.specs.Walks.{from_on};
 
@@ -44,7 +44,7 @@ fn versym_words(
     count: u32,
 ) -> Result<Vec<u16>, VersionFault>
     requires { IsReadFrom elf.now bytes.now }
-    ensures flaw { TellsBy flaw_of result (some_where (is_unbacked bytes.now at (2 * count)) (flaw VERSION_RANGE at 0)) }
+    ensures flaw { TellsBy version_fault_flaw result (some_where (is_unbacked bytes.now at (2 * count)) (flaw VERSION_RANGE at 0)) }
     ensures words { IfOk result (λ words. words.items ≡ map (λ i. memory_number 2 bytes.now (at + 2 * i)) (range_with_len 0 count)) }
 {
     let Some(place) = backed(elf, bytes, at, 2 * u64::from(count)) else {
@@ -58,7 +58,7 @@ fn versym_words(
 
 /// The words of symbols that have no versions.
 fn plain_words(alloc: Global, count: u32) -> Result<Vec<u16>, VersionFault>
-    ensures flaw { TellsBy flaw_of result None }
+    ensures flaw { TellsBy version_fault_flaw result None }
     ensures words { IfOk result (λ words. words.items ≡ map (λ _. VER_NDX_GLOBAL) (range_with_len 0 count)) }
 {
     match (0..u64::from(count)).map(|_| VER_NDX_GLOBAL).collect(alloc) {
@@ -78,7 +78,7 @@ pub(crate) fn read_words(
 ) -> Result<Vec<u16>, VersionFault>
     requires headers { IsReadFrom elf.now bytes.now }
     requires table { IsTableOf table.now bytes.now }
-    ensures flaw { TellsBy flaw_of result (bad_versym count bytes.now) }
+    ensures flaw { TellsBy version_fault_flaw result (bad_versym count bytes.now) }
     ensures words { IfOk result (λ words. words.items ≡ map (symbol_word bytes.now) (range_with_len 0 count)) }
 {
     match value_of(DT_VERSYM, table.entries()) {
@@ -89,7 +89,7 @@ pub(crate) fn read_words(
 
 /// Does the version index of a symbol have a name, if it needs one?
 fn check_index(places: &[Option<u32>], symbol: u64, word: u16) -> Result<(), VersionFault>
-    ensures { TellsBy flaw_of result (unknown_word places.now symbol word) }
+    ensures { TellsBy version_fault_flaw result (unknown_word places.now symbol word) }
 {
     let index = word & VERSYM_VERSION;
     if index > VER_NDX_GLOBAL && place_in(places, index).is_none() {
@@ -100,7 +100,7 @@ fn check_index(places: &[Option<u32>], symbol: u64, word: u16) -> Result<(), Ver
 
 /// Does the version index of each symbol have a name, if it needs one?
 pub(crate) fn check_indexes(words: &[u16], places: &[Option<u32>]) -> Result<(), VersionFault>
-    ensures { TellsBy flaw_of result (first_some (from_on (unknown_at places.now words.now) 0 (length words.now))) }
+    ensures { TellsBy version_fault_flaw result (first_some (from_on (unknown_at places.now words.now) 0 (length words.now))) }
 {
     for (symbol, word) in words.iter().enumerate() {
         match check_index(places, symbol as u64, *word) {

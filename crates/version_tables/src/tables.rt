@@ -8,7 +8,7 @@ ghost use Rattle.byte_view.specs.Checks.{flaw};
 ghost use Rattle.byte_view.specs.Dynamic.{string_at};
 ghost use Rattle.dyn_table.specs.Table.{IsTableOf};
 ghost use Rattle.load_model.specs.VersionTables.{count_by, text_of};
-ghost use Rattle.version_tables.specs.Faults.{flaw_of};
+ghost use Rattle.version_tables.specs.Faults.{version_fault_flaw};
 
 use crate::faults::{VersionFault, flawed};
 use byte_view::flaws::STRING_PLACE;
@@ -27,7 +27,7 @@ pub(crate) fn count_by(table: Option<u64>, said: Option<u64>) -> u64
 
 /// Does a place lie in a string table of this size?
 pub(crate) fn check_text(size: u64, place: u32) -> Result<(), VersionFault>
-    ensures { TellsBy flaw_of result (some_where (nat_le size place) (flaw STRING_PLACE place 0)) }
+    ensures { TellsBy version_fault_flaw result (some_where (nat_le size place) (flaw STRING_PLACE place 0)) }
 {
     let place = u64::from(place);
     if size <= place {

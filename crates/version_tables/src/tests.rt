@@ -1,16 +1,45 @@
 //! Versions that are read, and versions that are not.
 
-ghost use Rattle.std.specs.Prelude.{◌+◌, ◌≤◌, length};
-
-use super::{VersionFault, Versions};
+use super::{VersionFault, VersionParts, Versions};
 use byte_view::flaws::{STRING_PLACE, UNKNOWN_INDEX, VERSION_COUNT, VERSION_RANGE};
 use dyn_table::Dyn;
 use elf_headers::Elf;
-use load_model::{Ask, Flaw, Ver};
-use std::alloc::Global;
+use load_model::{Flaw, Ver};
+use std::alloc::{AllocError, Global};
+use std::test::Fail;
 
-/// A library that asks libc.so.6 for GLIBC_9: the strings at 176, one symbol at 208, its word of
-/// versym at 248, its Verneed at 256 and the Vernaux at 272, the dynamic table at 288.
+/// How many symbols the asking library has.
+const ASKING_SYMBOLS: u32 = 1;
+/// `vn_version` of its need.
+const NEED_VERSION: usize = 256;
+/// `vn_cnt`, how many asks the need has.
+const NEED_COUNT: usize = 258;
+/// `vn_aux`, where its first ask is.
+const NEED_ASKS: usize = 264;
+/// `vn_next` of the need.
+const NEED_NEXT: usize = 268;
+/// `vna_name` of the ask.
+const ASK_NAME: usize = 280;
+/// The tag of the entry for versym, and behind its value that of the entry for the needs.
+const ASKING_VERSYM_TAG: usize = 400;
+/// How many needs there are.
+const NEEDS_COUNT: usize = 440;
+
+/// How many symbols the defining library has.
+const DEFINING_SYMBOLS: u32 = 5;
+/// The word of its last symbol in versym.
+const LAST_SYMBOL_WORD: usize = 208;
+/// `vd_cnt`, how many names the second definition has.
+const DEFINITION_NAMES: usize = 250;
+/// `vd_next` of the second definition.
+const DEFINITION_NEXT: usize = 260;
+/// The address of versym.
+const VERSYM_ADDRESS: usize = 432;
+/// How many definitions there are.
+const DEFINITIONS_COUNT: usize = 464;
+
+/// A library with one symbol that asks libc.so.6 for GLIBC_9: the strings at 176, the symbol at 208, its
+/// word of versym at 248, its Verneed at 256 and the Vernaux at 272, the dynamic table at 288.
 #[rattlefmt::skip]
 fn asking() -> [u8; 464] {
     [
@@ -89,202 +118,230 @@ fn defining() -> [u8; 520] {
     ]
 }
 
-/// The asking library with other bytes at a place.
-fn asking_with(at: usize, change: &[u8]) -> [u8; 464]
-    requires { at + length change.now ≤ 464 }
-{
-    let mut bytes = asking();
-    bytes[at..at + change.len()].copy_from_slice(change);
-    bytes
-}
+/// A tag that nothing is known of.
+const UNKNOWN_TAG: u8 = 21;
 
-/// The defining library with other bytes at a place.
-fn defining_with(at: usize, change: &[u8]) -> [u8; 520]
-    requires { at + length change.now ≤ 520 }
-{
-    let mut bytes = defining();
-    bytes[at..at + change.len()].copy_from_slice(change);
-    bytes
-}
-
-/// The versions of a file with so many symbols.
-fn read(alloc: Global, bytes: &[u8], count: u32) -> Option<Result<Versions, VersionFault>> {
-    let Ok(elf) = Elf::read(alloc, bytes) else {
-        return None;
-    };
-    let Ok(table) = Dyn::read(alloc, &elf, bytes) else {
-        return None;
-    };
-    Some(Versions::read(alloc, &elf, &table, count, bytes))
-}
-
-fn fault_of(alloc: Global, bytes: &[u8], count: u32) -> Option<VersionFault> {
-    match read(alloc, bytes, count) {
-        Some(Err(fault)) => Some(fault),
-        _ => None,
+/// A file with other bytes at a place.
+fn changed(alloc: Global, file: &[u8], place: usize, change: &[u8]) -> Result<Vec<u8>, AllocError> {
+    let mut bytes = Vec::from_slice(alloc, file)?;
+    for (byte, value) in bytes.iter_mut().skip(place).zip(change) {
+        *byte = *value;
     }
+    Ok(bytes)
 }
 
-/// What reading says of the asking library with other bytes at a place.
-fn asking_fault(alloc: Global, at: usize, change: &[u8]) -> Option<VersionFault>
-    requires { at + length change.now ≤ 464 }
-{
-    fault_of(alloc, &asking_with(at, change), 1)
+/// The versions of a file with so many symbols. Its headers and dynamic table have no flaw.
+fn read(alloc: Global, bytes: &[u8], count: u32) -> Result<Result<Versions, VersionFault>, Fail> {
+    let elf = Elf::read(alloc, bytes)?;
+    let table = Dyn::read(alloc, &elf, bytes)?;
+    Ok(Versions::read(alloc, &elf, &table, count, bytes))
 }
 
-/// What reading says of the defining library with other bytes at a place.
-fn defining_fault(alloc: Global, at: usize, change: &[u8]) -> Option<VersionFault>
-    requires { at + length change.now ≤ 520 }
-{
-    fault_of(alloc, &defining_with(at, change), 5)
-}
-
-fn flawed(code: u8, a: u64, b: u64) -> Option<VersionFault> {
-    Some(VersionFault::Flawed(Flaw { code, a, b }))
-}
-
-/// Has the version this index, and this name from the index 2 on?
-fn is_version(version: Option<&Ver>, index: u16, name: &[u8]) -> bool {
+/// Adds a version with a space before it: its index, or its name and index.
+fn push_version(alloc: Global, text: &mut Vec<u8>, version: &Ver) -> Result<(), AllocError> {
     match version {
-        Some(Ver::Local) => index == 0,
-        Some(Ver::Global) => index == 1,
-        Some(Ver::Named { index: i, name: n }) => *i == index && n.as_bytes() == name,
-        None => false,
+        Ver::Local => text.extend_from_slice(b" 0"),
+        Ver::Global => text.extend_from_slice(b" 1"),
+        Ver::Named { index, name } => {
+            text.push(b' ')?;
+            text.extend_from_slice(name.as_bytes())?;
+            text.extend_from_slice(format!(in alloc; "@{index}")?.as_bytes())
+        }
     }
 }
 
-fn is_ask(ask: Option<&Ask>, file: &[u8], name: &[u8], weak: bool) -> bool {
-    match ask {
-        Some(ask) => ask.file.as_bytes() == file && ask.name.as_bytes() == name && ask.weak == weak,
-        None => false,
+/// The version of each symbol, with a star where it is hidden; the definitions; the asks, with a
+/// question mark where they may be missing; the places.
+fn described(alloc: Global, versions: &Versions) -> Result<Vec<u8>, AllocError> {
+    let mut text = Vec::from_slice(alloc, b"of")?;
+    for (version, hidden) in versions.of().iter().zip(versions.hidden()) {
+        push_version(alloc, &mut text, version)?;
+        if *hidden {
+            text.push(b'*')?;
+        }
     }
+    text.extend_from_slice(b", defines")?;
+    for name in versions.defs() {
+        text.push(b' ')?;
+        text.extend_from_slice(name.as_bytes())?;
+    }
+    text.extend_from_slice(b", asks")?;
+    for ask in versions.asks() {
+        text.push(b' ')?;
+        text.extend_from_slice(ask.file.as_bytes())?;
+        text.push(if ask.weak { b'?' } else { b':' })?;
+        text.extend_from_slice(ask.name.as_bytes())?;
+    }
+    let (file_words, ask_needs) = (versions.file_words(), versions.ask_needs());
+    let (aux_places, def_places) = (versions.aux_places(), versions.def_places());
+    let places = format!(in alloc; ", {file_words:?} {ask_needs:?} {aux_places:?} {def_places:?}")?;
+    text.extend_from_slice(places.as_bytes())?;
+    Ok(text)
 }
 
 #[test]
-fn library_that_asks(rt: HostRuntime) {
-    let Some(Ok(versions)) = read(rt.alloc(), &asking(), 1) else {
-        assert!(rt; false);
-        return;
-    };
-    assert_eq!(rt; versions.of().len(), 1);
-    assert!(rt; is_version(versions.of().first(), 0, b""));
-    assert!(rt; versions.hidden() == [false].as_slice());
-    assert_eq!(rt; versions.defs().len(), 0);
-    assert_eq!(rt; versions.def_places().len(), 0);
-    assert_eq!(rt; versions.asks().len(), 1);
-    assert!(rt; is_ask(versions.asks().first(), b"libc.so.6", b"GLIBC_9", false));
-    assert!(rt; versions.file_words() == [260].as_slice());
-    assert!(rt; versions.ask_needs() == [0].as_slice());
-    assert!(rt; versions.aux_places() == [272].as_slice());
-}
-
-#[test]
-fn damaged_asks(rt: HostRuntime) {
+fn versions_of_files(rt: HostRuntime) -> Result<(), Fail> {
     let alloc = rt.alloc();
-    assert_eq!(rt;
-        asking_fault(alloc, 256, &[2, 0]),
-        flawed(VERSION_RANGE, 256, 0)
-    );
-    assert_eq!(rt;
-        asking_fault(alloc, 258, &[2, 0]),
-        flawed(VERSION_COUNT, 2, 1)
-    );
-    assert_eq!(rt;
-        asking_fault(alloc, 268, &[16, 0, 0, 0]),
-        flawed(VERSION_COUNT, 1, 2)
-    );
-    assert_eq!(rt; asking_fault(alloc, 440, &[2]), flawed(VERSION_COUNT, 2, 1));
-    assert_eq!(rt;
-        asking_fault(alloc, 264, &[0, 0xff, 0xff, 0xff]),
-        flawed(VERSION_RANGE, 4_294_967_296, 0)
-    );
-    assert_eq!(rt;
-        asking_fault(alloc, 280, &[29, 0, 0, 0]),
-        flawed(STRING_PLACE, 29, 0)
-    );
+    let (asking, defining) = (asking(), defining());
+    let asks = (asking.as_slice(), ASKING_SYMBOLS);
+    let defines = (defining.as_slice(), DEFINING_SYMBOLS);
+    let mut no_tables = [0; 24];
+    no_tables[0] = UNKNOWN_TAG;
+    no_tables[16] = UNKNOWN_TAG;
+    let rows = [
+        (
+            "a library that asks",
+            asks,
+            (0, [].as_slice()),
+            "of 0, defines, asks libc.so.6:GLIBC_9, [260] [0] [272] []",
+        ),
+        (
+            "asks without versym",
+            asks,
+            (ASKING_VERSYM_TAG, &[UNKNOWN_TAG]),
+            "of 1, defines, asks libc.so.6:GLIBC_9, [260] [0] [272] []",
+        ),
+        (
+            "no version tables",
+            (asking.as_slice(), 3),
+            (ASKING_VERSYM_TAG, no_tables.as_slice()),
+            "of 1 1 1, defines, asks, [] [] [] []",
+        ),
+        (
+            "no needs",
+            asks,
+            (NEEDS_COUNT, &[0]),
+            "of 0, defines, asks, [] [] [] []",
+        ),
+        (
+            "a library that defines",
+            defines,
+            (0, &[]),
+            "of 0 1 V1@2 V1@2* A1@3, defines lib V1 V2, asks libc.so.6?A1 libc.so.6:V2, \
+             [312] [0, 0] [324, 340] [(216, 236), (244, 264), (280, 300)]",
+        ),
+        (
+            "no definitions, so that an index is an ask's",
+            defines,
+            (DEFINITIONS_COUNT, &[0]),
+            "of 0 1 V2@2 V2@2* A1@3, defines, asks libc.so.6?A1 libc.so.6:V2, \
+             [312] [0, 0] [324, 340] []",
+        ),
+    ];
+    for (what, (file, count), (place, change), text) in rows {
+        let bytes = changed(alloc, file, place, change)?;
+        let versions = read(alloc, &bytes, count)??;
+        assert_eq!(rt;
+            described(alloc, &versions)?.as_slice(),
+            text.as_bytes(),
+            "{what}"
+        );
+    }
+    Ok(())
 }
 
 #[test]
-fn library_that_defines(rt: HostRuntime) {
-    let Some(Ok(versions)) = read(rt.alloc(), &defining(), 5) else {
-        assert!(rt; false);
-        return;
-    };
-    let of = versions.of();
-    assert_eq!(rt; of.len(), 5);
-    assert!(rt; is_version(of.first(), 0, b"") && is_version(of.get(1), 1, b""));
-    assert!(rt; is_version(of.get(2), 2, b"V1") && is_version(of.get(3), 2, b"V1"));
-    assert!(rt; is_version(of.get(4), 3, b"A1"));
-    assert!(rt; versions.hidden() == [false, false, false, true, false].as_slice());
-    let defs = versions.defs();
-    assert_eq!(rt; defs.len(), 3);
-    assert!(rt; defs[0].as_bytes() == b"lib".as_slice());
-    assert!(rt; defs[1].as_bytes() == b"V1".as_slice());
-    assert!(rt; defs[2].as_bytes() == b"V2".as_slice());
-    assert!(rt; is_ask(versions.asks().first(), b"libc.so.6", b"A1", true));
-    assert!(rt; is_ask(versions.asks().get(1), b"libc.so.6", b"V2", false));
-    assert!(rt; versions.file_words() == [312].as_slice());
-    assert!(rt; versions.ask_needs() == [0, 0].as_slice());
-    assert!(rt; versions.aux_places() == [324, 340].as_slice());
-    assert!(rt; versions.def_places() == [(216, 236), (244, 264), (280, 300)].as_slice());
+fn lists_are_given_away(rt: HostRuntime) -> Result<(), Fail> {
+    let versions = read(rt.alloc(), &defining(), DEFINING_SYMBOLS)??;
+    let VersionParts {
+        of,
+        hidden,
+        defs,
+        asks,
+    } = versions.into_parts();
+    assert!(rt; of.len() == 5 && hidden.len() == 5);
+    assert!(rt; defs.as_slice().len() == 3 && asks.as_slice().len() == 2);
+    Ok(())
 }
 
 #[test]
-fn damaged_definitions(rt: HostRuntime) {
+fn damaged_versions(rt: HostRuntime) -> Result<(), Fail> {
     let alloc = rt.alloc();
-    // No name, four definitions, a short chain, and an index that nothing has.
-    assert_eq!(rt;
-        defining_fault(alloc, 250, &[0]),
-        flawed(VERSION_RANGE, 244, 0)
-    );
-    assert_eq!(rt;
-        defining_fault(alloc, 464, &[4]),
-        flawed(VERSION_COUNT, 4, 3)
-    );
-    assert_eq!(rt;
-        defining_fault(alloc, 260, &[0]),
-        flawed(VERSION_COUNT, 3, 2)
-    );
-    assert_eq!(rt;
-        defining_fault(alloc, 208, &[4]),
-        flawed(UNKNOWN_INDEX, 4, 4)
-    );
-    // Versym past the file.
-    assert_eq!(rt;
-        defining_fault(alloc, 432, &[255, 255]),
-        flawed(VERSION_RANGE, 65_535, 0)
-    );
-}
-
-#[test]
-fn file_without_version_tables(rt: HostRuntime) {
-    // Other tags in place of VERSYM and VERNEED.
-    let mut change = [0; 24];
-    change[0] = 21;
-    change[16] = 21;
-    let Some(Ok(versions)) = read(rt.alloc(), &asking_with(400, &change), 3) else {
-        assert!(rt; false);
-        return;
-    };
-    assert_eq!(rt; versions.of().len(), 3);
-    assert!(rt; is_version(versions.of().get(2), 1, b""));
-    assert!(rt; versions.hidden() == [false, false, false].as_slice());
-    assert_eq!(rt; versions.asks().len(), 0);
-}
-
-#[test]
-fn tables_of_no_records(rt: HostRuntime) {
-    let alloc = rt.alloc();
-    let Some(Ok(asking)) = read(alloc, &asking_with(440, &[0]), 1) else {
-        assert!(rt; false);
-        return;
-    };
-    assert_eq!(rt; asking.asks().len(), 0);
-    // Without definitions the index 2 is an ask's.
-    let Some(Ok(defining)) = read(alloc, &defining_with(464, &[0]), 5) else {
-        assert!(rt; false);
-        return;
-    };
-    assert_eq!(rt; defining.defs().len(), 0);
-    assert!(rt; is_version(defining.of().get(2), 2, b"V2"));
+    let (asking, defining) = (asking(), defining());
+    let asks = (asking.as_slice(), ASKING_SYMBOLS);
+    let defines = (defining.as_slice(), DEFINING_SYMBOLS);
+    let rows = [
+        (
+            "another version of the need",
+            asks,
+            (NEED_VERSION, [2].as_slice()),
+            (VERSION_RANGE, 256, 0),
+        ),
+        (
+            "two asks, of which one is there",
+            asks,
+            (NEED_COUNT, &[2]),
+            (VERSION_COUNT, 2, 1),
+        ),
+        (
+            "a need behind the last",
+            asks,
+            (NEED_NEXT, &[16]),
+            (VERSION_COUNT, 1, 2),
+        ),
+        (
+            "two needs, of which one is there",
+            asks,
+            (NEEDS_COUNT, &[2]),
+            (VERSION_COUNT, 2, 1),
+        ),
+        (
+            "asks that are not in the file",
+            asks,
+            (NEED_ASKS, &[0, 0xff, 0xff, 0xff]),
+            (VERSION_RANGE, 0x1_0000_0000, 0),
+        ),
+        (
+            "a name past the strings",
+            asks,
+            (ASK_NAME, &[29]),
+            (STRING_PLACE, 29, 0),
+        ),
+        (
+            "a definition without a name",
+            defines,
+            (DEFINITION_NAMES, &[0]),
+            (VERSION_RANGE, 244, 0),
+        ),
+        (
+            "four definitions, of which three are there",
+            defines,
+            (DEFINITIONS_COUNT, &[4]),
+            (VERSION_COUNT, 4, 3),
+        ),
+        (
+            "a last definition too early",
+            defines,
+            (DEFINITION_NEXT, &[0]),
+            (VERSION_COUNT, 3, 2),
+        ),
+        (
+            "an index without a name",
+            defines,
+            (LAST_SYMBOL_WORD, &[4]),
+            (UNKNOWN_INDEX, 4, 4),
+        ),
+        (
+            "the same of a hidden symbol",
+            defines,
+            (LAST_SYMBOL_WORD, &[4, 0x80]),
+            (UNKNOWN_INDEX, 4, 4),
+        ),
+        (
+            "versym past the file",
+            defines,
+            (VERSYM_ADDRESS, &[0xff, 0xff]),
+            (VERSION_RANGE, 0xffff, 0),
+        ),
+    ];
+    for (what, (file, count), (place, change), (code, a, b)) in rows {
+        let bytes = changed(alloc, file, place, change)?;
+        let fault = read(alloc, &bytes, count)?.err();
+        assert_eq!(rt;
+            fault,
+            Some(VersionFault::Flawed(Flaw { code, a, b })),
+            "{what}"
+        );
+    }
+    Ok(())
 }

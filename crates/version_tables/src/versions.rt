@@ -5,10 +5,8 @@ ghost use Rattle.answers.specs.Answers.{TellsBy};
 ghost use Rattle.byte_view.specs.Sound.{IsReadFrom};
 ghost use Rattle.dyn_table.specs.Table.{IsTableOf};
 ghost use Rattle.load_model.specs.VersionFlaws.{version_flaw};
-ghost use Rattle.load_model.specs.VersionTables.{indexed_names};
-ghost use Rattle.version_tables.specs.Faults.{flaw_of};
-ghost use Rattle.version_tables.specs.Indexes.{AreFirst};
-ghost use Rattle.version_tables.specs.VersionLists.{AreTablesOf, IsVersionsOf, lists_in};
+ghost use Rattle.version_tables.specs.Faults.{version_fault_flaw};
+ghost use Rattle.version_tables.specs.VersionLists.{IsVersionsOf, lists_in};
 
 use crate::faults::VersionFault;
 use crate::kept::{Kept, read_kept};
@@ -19,7 +17,7 @@ use crate::needs::Needs;
 use crate::symbols::hidden_marks;
 use dyn_table::Dyn;
 use elf_headers::Elf;
-use load_model::{Ask, Name, NoMemory, Ver};
+use load_model::{Ask, List, Name, NoMemory, Ver};
 use std::alloc::Global;
 use std::marker::Model;
 
@@ -28,12 +26,25 @@ use std::marker::Model;
 pub struct Versions {
     versions: Vec<Ver>,
     hidden: Vec<bool>,
-    defs: Vec<Name>,
-    asks: Vec<Ask>,
+    defs: List<Name>,
+    asks: List<Ask>,
     file_words: Vec<u64>,
     ask_needs: Vec<u32>,
     aux_places: Vec<u64>,
     def_places: Vec<(u64, u64)>,
+}
+
+/// What a face keeps of the versions.
+#[derive(Drop)]
+pub struct VersionParts {
+    /// The version of each symbol.
+    pub of: Vec<Ver>,
+    /// For each symbol, is it a definition that is not the default of its name?
+    pub hidden: Vec<bool>,
+    /// The names of the version definitions, in order.
+    pub defs: List<Name>,
+    /// The versions that are asked of other files, in order.
+    pub asks: List<Ask>,
 }
 
 impl Model for Versions {
@@ -41,7 +52,7 @@ impl Model for Versions {
 
     ghost Value = { VersionLists };
 
-    ghost view = { λ v. record { versions = v.versions.items; hidden = v.hidden.items; defs = v.defs.items; asks = v.asks.items; file_words = v.file_words.items; ask_needs = v.ask_needs.items; aux_places = v.aux_places.items; def_places = v.def_places.items } };
+    ghost view = { λ v. record { versions = v.versions.items; hidden = v.hidden.items; defs = v.defs; asks = v.asks; file_words = v.file_words.items; ask_needs = v.ask_needs.items; aux_places = v.aux_places.items; def_places = v.def_places.items } };
 }
 
 impl Versions {
@@ -58,7 +69,7 @@ impl Versions {
     ) -> Result<Versions, VersionFault>
         requires headers { IsReadFrom elf.now bytes.now }
         requires table { IsTableOf table.now bytes.now }
-        ensures flaw { TellsBy flaw_of result (version_flaw count bytes.now) }
+        ensures flaw { TellsBy version_fault_flaw result (version_flaw count bytes.now) }
         ensures table { IfOk result (λ v. IsVersionsOf v count bytes.now) }
         ensures few { IfOk result (λ v. length v.asks < 2 ^ 32) }
     {
@@ -87,14 +98,14 @@ impl Versions {
     pub fn defs(&self) -> &[Name]
         ensures { result.now ≡ self.now.defs }
     {
-        &self.defs
+        self.defs.as_slice()
     }
 
     /// The versions that are asked of other files, in order.
     pub fn asks(&self) -> &[Ask]
         ensures { result.now ≡ self.now.asks }
     {
-        &self.asks
+        self.asks.as_slice()
     }
 
     /// Where the `vn_file` word of each Verneed begins in the file, in order.
@@ -123,6 +134,21 @@ impl Versions {
         ensures { result.now ≡ self.now.def_places }
     {
         &self.def_places
+    }
+
+    /// Gives the lists of a face away. The places in the file are let go.
+    pub fn into_parts(self) -> VersionParts
+        ensures of { result.of.items ≡ self.versions }
+        ensures hidden { result.hidden.items ≡ self.hidden }
+        ensures defs { result.defs ≡ self.defs }
+        ensures asks { result.asks ≡ self.asks }
+    {
+        VersionParts {
+            of: self.versions,
+            hidden: self.hidden,
+            defs: self.defs,
+            asks: self.asks,
+        }
     }
 
     /// With names in place of string places.

@@ -2,8 +2,8 @@
 use Rattle.std.proofs.Common.{◌≡◌, ◌++◌, sym, ◌∙◌}
 use Rattle.load_model.specs.VersionFlaws.{vernaux_flaw, vernauxs_flaw}
 use Rattle.load_model.specs.VersionTables.{vn_cnt}
-use Rattle.version_tables.specs.Faults.{flaw_of}
-use Rattle.version_tables.specs.Walks.{asked_by, asked_of}
+use Rattle.version_tables.specs.Faults.{version_fault_flaw}
+use Rattle.version_tables.specs.Walks.{asked_of_record, asked_of}
 use Rattle.version_tables.proofs.AskedSteps.{asked_first, asked_here, asked_left, asked_said, vernaux_here, vernaux_named, vernaux_step, vernauxs_left}
 use Rattle.version_tables.proofs.Walks.{flaw_named, flaw_none, flaw_passed, kept_all, kept_more}
 use Rattle.version_tables.proofs.asked.read_asked.Goals as goal
@@ -27,7 +27,7 @@ loop-j-preserved c =
           (sym (vernaux_here c.args.bytes.now c.args.at c.loop-j.j c.loop-j.aux_at c.from-said.result c.loop-j.invariant.place said) ∙ c.in-Ok.ensures.flaw) c.loop-j.invariant.flaw;
       kept =
           rw c.in-Ok-push.ensures.items
-          (kept_more (asked_of c.args.bytes.now c.args.number c.args.at) c.loop-j.j c.from-said.result c.loop-j.asks.items (c.args.asks.now.items ++ asked_by c.args.bytes.now c.args.number c.args.at) c.what_is_asked.result c.loop-j-test.true
+          (kept_more (asked_of c.args.bytes.now c.args.number c.args.at) c.loop-j.j c.from-said.result c.loop-j.asks.items (c.args.asks.now.items ++ asked_of_record c.args.bytes.now c.args.number c.args.at) c.what_is_asked.result c.loop-j-test.true
           (asked_here c.args.bytes.now c.args.number c.args.at c.loop-j.j c.loop-j.aux_at c.args.verneed.now c.in-Ok.vernaux c.what_is_asked.result c.loop-j.invariant.place c.requires.words c.in-Ok.ensures.words c.what_is_asked.ensures)
           c.loop-j.invariant.kept);
     }
@@ -35,11 +35,11 @@ loop-j-preserved c =
 pub returns-in-Err-clause-flaw : goal.returns-in-Err-clause-flaw
 returns-in-Err-clause-flaw c =
     let said : c.from-said.result ≡ vn_cnt c.args.bytes.now c.args.at = c.from-said.ensures ∙ asked_said c.args.bytes.now c.args.at c.args.verneed.now c.requires.words in
-    flaw_named (vernaux_flaw c.args.bytes.now c.args.at) c.loop-j.j c.from-said.result (vernauxs_flaw c.args.bytes.now c.args.at) (flaw_of c.in-Err.fault) c.loop-j-test.true
-    (vernaux_named c.args.bytes.now c.args.at c.loop-j.j c.loop-j.aux_at c.from-said.result (flaw_of c.in-Err.fault) c.loop-j.invariant.place said c.in-Err.ensures.flaw) c.loop-j.invariant.flaw
+    flaw_named (vernaux_flaw c.args.bytes.now c.args.at) c.loop-j.j c.from-said.result (vernauxs_flaw c.args.bytes.now c.args.at) (version_fault_flaw c.in-Err.fault) c.loop-j-test.true
+    (vernaux_named c.args.bytes.now c.args.at c.loop-j.j c.loop-j.aux_at c.from-said.result (version_fault_flaw c.in-Err.fault) c.loop-j.invariant.place said c.in-Err.ensures.flaw) c.loop-j.invariant.flaw
 
 pub returns-clause-flaw : goal.returns-clause-flaw
 returns-clause-flaw c = flaw_none (vernaux_flaw c.args.bytes.now c.args.at) c.loop-j.j c.from-said.result (vernauxs_flaw c.args.bytes.now c.args.at) c.loop-j-test.false c.loop-j.invariant.flaw
 
 pub returns-clause-kept : goal.returns-clause-kept
-returns-clause-kept c = kept_all (asked_of c.args.bytes.now c.args.number c.args.at) c.loop-j.j c.from-said.result c.loop-j.asks.items (c.args.asks.now.items ++ asked_by c.args.bytes.now c.args.number c.args.at) c.loop-j-test.false c.loop-j.invariant.kept
+returns-clause-kept c = kept_all (asked_of c.args.bytes.now c.args.number c.args.at) c.loop-j.j c.from-said.result c.loop-j.asks.items (c.args.asks.now.items ++ asked_of_record c.args.bytes.now c.args.number c.args.at) c.loop-j-test.false c.loop-j.invariant.kept

@@ -3,7 +3,7 @@ use Rattle.std.proofs.Common.{◌≡◌, ◌<◌, ◌≤◌, sym, ◌∙◌, ari
 use Rattle.byte_view.specs.Dynamic.{dynamic_entries}
 use Rattle.load_model.specs.VersionFlaws.{verdef_flaw, verdefs_flaw}
 use Rattle.load_model.specs.VersionTables.{verdef_count}
-use Rattle.version_tables.specs.Faults.{flaw_of}
+use Rattle.version_tables.specs.Faults.{version_fault_flaw}
 use Rattle.version_tables.specs.Walks.{definition_of, from_on}
 use Rattle.version_tables.proofs.Places.{first_verdef}
 use Rattle.version_tables.proofs.DefinitionSteps.{definition_here, verdef_here, verdef_named, verdef_step, verdefs_left}
@@ -40,8 +40,8 @@ loop-k-preserved c = record {
 
 pub returns-in-Err-clause-flaw : goal.returns-in-Err-clause-flaw
 returns-in-Err-clause-flaw c =
-    flaw_named (verdef_flaw c.args.bytes.now) c.loop-k.k c.definition_count-said.result (verdefs_flaw c.args.bytes.now) (flaw_of c.in-Err.fault) c.loop-k-test.true
-    (verdef_named c.args.bytes.now c.loop-k.k c.loop-k.at (flaw_of c.in-Err.fault) c.loop-k.invariant.place c.in-Err.ensures.flaw) c.loop-k.invariant.flaw
+    flaw_named (verdef_flaw c.args.bytes.now) c.loop-k.k c.definition_count-said.result (verdefs_flaw c.args.bytes.now) (version_fault_flaw c.in-Err.fault) c.loop-k-test.true
+    (verdef_named c.args.bytes.now c.loop-k.k c.loop-k.at (version_fault_flaw c.in-Err.fault) c.loop-k.invariant.place c.in-Err.ensures.flaw) c.loop-k.invariant.flaw
 
 pub returns-clause-flaw : goal.returns-clause-flaw
 returns-clause-flaw c = flaw_none (verdef_flaw c.args.bytes.now) c.loop-k.k c.definition_count-said.result (verdefs_flaw c.args.bytes.now) c.loop-k-test.false c.loop-k.invariant.flaw

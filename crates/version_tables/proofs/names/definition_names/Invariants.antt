@@ -4,4 +4,4 @@ use Rattle.load_model.specs.VersionTables.{text_of}
 use Rattle.version_tables.proofs.names.definition_names.Given as goal
 
 abbrev pub invariant-loop-definition : goal.invariant-loop-definition
-invariant-loop-definition l = l.names.items ++ map (λ d. text_of l.bytes d.name) (drop l.definition-index l.definitions) ≡ map (λ d. text_of l.bytes d.name) l.definitions
+invariant-loop-definition l = l.names ++ map (λ d. text_of l.bytes d.name) (drop l.definition-index l.definitions) ≡ map (λ d. text_of l.bytes d.name) l.definitions

@@ -3,8 +3,8 @@ use Rattle.std.proofs.Common.{◌≡◌, ◌+◌, ◌<◌, ◌≤◌, sym, ◌�
 use Rattle.byte_view.specs.Dynamic.{dynamic_entries}
 use Rattle.load_model.specs.VersionFlaws.{verneed_flaw, verneeds_flaw}
 use Rattle.load_model.specs.VersionTables.{verneed_count}
-use Rattle.version_tables.specs.Faults.{flaw_of}
-use Rattle.version_tables.specs.Walks.{asked_by, asked_of_need, file_word_of, from_on, lists_from}
+use Rattle.version_tables.specs.Faults.{version_fault_flaw}
+use Rattle.version_tables.specs.Walks.{asked_of_record, asked_of_need, file_word_of, from_on, lists_from}
 use Rattle.version_tables.proofs.Places.{first_verneed}
 use Rattle.version_tables.proofs.NeedSteps.{asked_by_here, file_word_here, verneed_here, verneed_named, verneed_step, verneeds_left}
 use Rattle.version_tables.proofs.Walks.{flaw_named, flaw_none, flaw_passed, kept_all, kept_more, kept_none, lists_all, lists_more, lists_none}
@@ -39,14 +39,14 @@ loop-k-preserved c = record {
       (file_word_here c.args.bytes.now c.loop-k.k c.loop-k.at c.in-Ok.verneed c.loop-k.invariant.place c.in-Ok.ensures.words) c.loop-k.invariant.words);
   asks =
       rw c.in-Ok.ensures.kept
-      (lists_more (asked_of_need c.args.bytes.now) c.loop-k.k c.need_count-said.result c.loop-k.asks.items (asked_by c.args.bytes.now c.loop-k.k c.loop-k.at) (lists_from (asked_of_need c.args.bytes.now) 0 (verneed_count c.args.bytes.now)) c.loop-k-test.true
+      (lists_more (asked_of_need c.args.bytes.now) c.loop-k.k c.need_count-said.result c.loop-k.asks.items (asked_of_record c.args.bytes.now c.loop-k.k c.loop-k.at) (lists_from (asked_of_need c.args.bytes.now) 0 (verneed_count c.args.bytes.now)) c.loop-k-test.true
       (asked_by_here c.args.bytes.now c.loop-k.k c.loop-k.at c.loop-k.invariant.place) c.loop-k.invariant.asks);
 }
 
 pub returns-in-Err-clause-flaw : goal.returns-in-Err-clause-flaw
 returns-in-Err-clause-flaw c =
-    flaw_named (verneed_flaw c.args.bytes.now) c.loop-k.k c.need_count-said.result (verneeds_flaw c.args.bytes.now) (flaw_of c.in-Err.fault) c.loop-k-test.true
-    (verneed_named c.args.bytes.now c.loop-k.k c.loop-k.at (flaw_of c.in-Err.fault) c.loop-k.invariant.place c.in-Err.ensures.flaw) c.loop-k.invariant.flaw
+    flaw_named (verneed_flaw c.args.bytes.now) c.loop-k.k c.need_count-said.result (verneeds_flaw c.args.bytes.now) (version_fault_flaw c.in-Err.fault) c.loop-k-test.true
+    (verneed_named c.args.bytes.now c.loop-k.k c.loop-k.at (version_fault_flaw c.in-Err.fault) c.loop-k.invariant.place c.in-Err.ensures.flaw) c.loop-k.invariant.flaw
 
 pub returns-clause-flaw : goal.returns-clause-flaw
 returns-clause-flaw c = flaw_none (verneed_flaw c.args.bytes.now) c.loop-k.k c.need_count-said.result (verneeds_flaw c.args.bytes.now) c.loop-k-test.false c.loop-k.invariant.flaw
