@@ -18,7 +18,7 @@ use crate::interp::{check_interp, interp_of};
 use crate::parts::{read_headers, read_symbols, read_table, read_versions};
 use crate::symbols::syms_of;
 use crate::texts::copied;
-use crate::versions::{check_files, copied_asks, copied_names};
+use crate::versions::check_files;
 use byte_view::constants::{DT_NEEDED, DT_RPATH, DT_RUNPATH, DT_SONAME};
 use byte_view::u16_at;
 use dyn_table::Dyn;
@@ -26,7 +26,7 @@ use elf_headers::Elf;
 use load_model::{Face, NoMemory};
 use std::alloc::Global;
 use sym_tables::Syms;
-use version_tables::Versions;
+use version_tables::{VersionParts, Versions};
 
 /// Reads a file as a loader does: its headers, dynamic table, symbols, versions and names.
 ///
@@ -43,7 +43,7 @@ pub fn read_face(alloc: Global, bytes: &[u8]) -> Result<Face, FaceFault>
     let syms = read_symbols(alloc, &elf, &table, bytes)?;
     let versions = read_versions(alloc, &elf, &table, syms.count(), bytes)?;
     check_names(&elf, &table, &versions, bytes)?;
-    match make_face(alloc, &elf, &table, &syms, &versions, bytes) {
+    match make_face(alloc, &elf, &table, &syms, versions, bytes) {
         Ok(face) => Ok(face),
         Err(_) => Err(FaceFault::NoMemory),
     }
@@ -73,26 +73,32 @@ fn machine_of(bytes: &[u8]) -> u16
     u16_at(bytes, 18).unwrap()
 }
 
-/// What a loader sees of a file that has no flaw.
+/// What a loader sees of a file that has no flaw. It takes over the lists of the versions.
 #[tactic(auto, unfolding(load_model::specs::Faces::face_of, load_model::specs::Faces::is_symbolic), using(crate::proofs::Numbered::length_syms, crate::proofs::Within::header_whole))]
 fn make_face(
     alloc: Global,
     elf: &Elf,
     table: &Dyn,
     syms: &Syms,
-    versions: &Versions,
+    versions: Versions,
     bytes: &[u8],
 ) -> Result<Face, NoMemory>
     requires headers { IsReadFrom elf.now bytes.now }
     requires table { IsTableOf table.now bytes.now }
     requires symbols { IsSymsOf syms.now bytes.now }
-    requires versions { IsVersionsOf versions.now (symbol_count bytes.now) bytes.now }
+    requires versions { IsVersionsOf versions (symbol_count bytes.now) bytes.now }
     requires few_symbols { symbol_count bytes.now < 2 ^ 32 }
-    requires few_asks { length versions.now.asks < 2 ^ 32 }
+    requires few_asks { length versions.asks < 2 ^ 32 }
     ensures face { IfOk result (λ face. face ≡ face_of bytes.now) }
     ensures few_symbols { IfOk result (λ face. length face.syms < 2 ^ 32) }
     ensures few_asks { IfOk result (λ face. length face.asks < 2 ^ 32) }
 {
+    let VersionParts {
+        of,
+        hidden,
+        defs,
+        asks,
+    } = versions.into_parts();
     Ok(Face {
         machine: machine_of(bytes),
         interp: copied(alloc, interp_of(elf, bytes))?,
@@ -101,16 +107,9 @@ fn make_face(
         rpath: copied(alloc, named_text(table, bytes, DT_RPATH))?,
         runpath: copied(alloc, named_text(table, bytes, DT_RUNPATH))?,
         symbolic: says_symbolic(table.entries()),
-        syms: syms_of(
-            alloc,
-            table,
-            bytes,
-            syms.raw(),
-            versions.of(),
-            versions.hidden(),
-        )?,
+        syms: syms_of(alloc, table, bytes, syms.raw(), of, hidden)?,
         versioned: has_versions(table.entries()),
-        defs: copied_names(alloc, versions.defs())?,
-        asks: copied_asks(alloc, versions.asks())?,
+        defs,
+        asks,
     })
 }

@@ -1,6 +1,7 @@
 //! Why a loader sees nothing of a file.
 
 ghost use Rattle.std.specs.Prelude.{◌≡◌};
+ghost use Rattle.byte_view.specs.Checks.{flaw};
 ghost use Rattle.elf_face.specs.Faults.{flaw_of};
 
 use byte_view::Flaw;
@@ -27,7 +28,7 @@ pub fn flaw_of(fault: &FaceFault) -> Option<Flaw>
 
 /// A name that is not UTF-8, by its place.
 pub(crate) fn bad_name(at: u64) -> FaceFault
-    ensures { result ≡ FaceFault.Flawed (record { code = 33; a = at; b = 0 }) }
+    ensures { result ≡ FaceFault.Flawed (flaw BAD_NAME at 0) }
 {
     FaceFault::Flawed(Flaw {
         code: BAD_NAME,

@@ -2,9 +2,9 @@
 //!
 //! System V gABI, Symbol Table.
 
-ghost use Rattle.std.specs.Prelude.{◌≡◌, ◌<◌, IfOk};
+ghost use Rattle.std.specs.Prelude.{◌≡◌, IfOk};
 ghost use Rattle.dyn_table.specs.Table.{IsTableOf};
-ghost use Rattle.load_model.specs.Faces.{sym_at, sym_of, syms_of};
+ghost use Rattle.load_model.specs.Faces.{sym_of, syms_of};
 ghost use Rattle.load_model.specs.SymbolFlaws.{symbol_count, symbols_of};
 ghost use Rattle.load_model.specs.SymbolWords.{has_value};
 ghost use Rattle.load_model.specs.VersionTables.{hidden_of, versions_of};
@@ -14,20 +14,6 @@ use byte_view::constants::{SHN_ABS, SHN_UNDEF, STT_TLS};
 use dyn_table::Dyn;
 use load_model::{List, Name, NoMemory, RawSym, Sym, Ver};
 use std::alloc::Global;
-
-/// A copy of a version.
-fn copied_version(alloc: Global, version: &Ver) -> Result<Ver, NoMemory>
-    ensures { IfOk result (λ copy. copy ≡ version.now) }
-{
-    Ok(match version {
-        Ver::Local => Ver::Local,
-        Ver::Global => Ver::Global,
-        Ver::Named { index, name } => Ver::Named {
-            index: *index,
-            name: Name::from_bytes(alloc, name.as_bytes())?,
-        },
-    })
-}
 
 /// Does it have a value that a reference can bind to?
 fn has_value(s: &RawSym) -> bool
@@ -42,15 +28,15 @@ fn sym_of(
     table: &Dyn,
     bytes: &[u8],
     s: &RawSym,
-    version: &Ver,
+    version: Ver,
     hidden: bool,
 ) -> Result<Sym, NoMemory>
     requires { IsTableOf table.now bytes.now }
-    ensures { IfOk result (λ sym. sym ≡ sym_of bytes.now s.now version.now hidden) }
+    ensures { IfOk result (λ sym. sym ≡ sym_of bytes.now s.now version hidden) }
 {
     Ok(Sym {
         name: Name::from_bytes(alloc, text_of(table, bytes, u64::from(s.name)))?,
-        version: copied_version(alloc, version)?,
+        version,
         hidden,
         defined: s.section != SHN_UNDEF,
         value_set: has_value(s),
@@ -60,45 +46,24 @@ fn sym_of(
     })
 }
 
-/// The symbol with an index, where `versions` and `hidden` are those of all symbols.
-#[tactic(auto, using(crate::proofs::Numbered::version_there, crate::proofs::Numbered::hidden_there, crate::proofs::Numbered::length_versions, crate::proofs::Numbered::length_hidden))]
-fn sym_at(
-    alloc: Global,
-    table: &Dyn,
-    bytes: &[u8],
-    i: usize,
-    s: &RawSym,
-    versions: &[Ver],
-    hidden: &[bool],
-) -> Result<Sym, NoMemory>
-    requires table { IsTableOf table.now bytes.now }
-    requires index { i < symbol_count bytes.now }
-    requires versions { versions.now ≡ versions_of (symbol_count bytes.now) bytes.now }
-    requires hidden { hidden.now ≡ hidden_of (symbol_count bytes.now) bytes.now }
-    ensures { IfOk result (λ sym. sym ≡ sym_at bytes.now (i, s.now)) }
-{
-    sym_of(alloc, table, bytes, s, &versions[i], hidden[i])
-}
-
-/// The symbols with their versions.
-#[tactic(auto, unfolding(load_model::specs::Faces::syms_of), using(crate::proofs::Numbered::length_symbols))]
+/// The symbols with their versions, of which each is given away to its symbol.
 pub(crate) fn syms_of(
     alloc: Global,
     table: &Dyn,
     bytes: &[u8],
     symbols: &[RawSym],
-    versions: &[Ver],
-    hidden: &[bool],
+    versions: Vec<Ver>,
+    hidden: Vec<bool>,
 ) -> Result<List<Sym>, NoMemory>
     requires table { IsTableOf table.now bytes.now }
     requires symbols { symbols.now ≡ symbols_of bytes.now }
-    requires versions { versions.now ≡ versions_of (symbol_count bytes.now) bytes.now }
-    requires hidden { hidden.now ≡ hidden_of (symbol_count bytes.now) bytes.now }
+    requires versions { versions.items ≡ versions_of (symbol_count bytes.now) bytes.now }
+    requires hidden { hidden.items ≡ hidden_of (symbol_count bytes.now) bytes.now }
     ensures { IfOk result (λ syms. syms ≡ syms_of bytes.now) }
 {
     let mut syms = List::new(alloc);
-    for (i, s) in symbols.iter().enumerate() {
-        syms.push(sym_at(alloc, table, bytes, i, s, versions, hidden)?)?;
+    'symbols: for ((s, version), is_hidden) in symbols.iter().zip(versions).zip(hidden) {
+        syms.push(sym_of(alloc, table, bytes, s, version, is_hidden)?)?;
     }
     Ok(syms)
 }

@@ -1,49 +1,47 @@
 //! Files of which a loader sees something, and files of which it sees nothing.
 
 use super::{Face, Flaw, flaw_of, read_face};
-use byte_view::constants::{STB_GLOBAL, STT_FUNC, STT_OBJECT, STV_DEFAULT};
 use byte_view::flaws::{BAD_NAME, CLASS};
 use load_model::{Name, Sym, Ver};
+use sample_file::{CLASS_PLACE, INTERPRETER, NEEDED_NAME, smallest_program};
 use std::alloc::{AllocError, Global};
+use std::test::Fail;
 
-/// A program with an interpreter and one needed library, and no symbols: four program headers at 64,
-/// the interpreter at 288, the strings at 320, the dynamic table at 376.
-#[rattlefmt::skip]
-fn smallest() -> [u8; 488] {
-    [
-        127, 69, 76, 70, 2, 1, 1, 0, 0, 0, 0, 0, 0, 0, 0, 0,
-        3, 0, 62, 0, 1, 0, 0, 0, 0, 0, 0, 0, 0, 0, 0, 0,
-        64, 0, 0, 0, 0, 0, 0, 0, 0, 0, 0, 0, 0, 0, 0, 0,
-        0, 0, 0, 0, 64, 0, 56, 0, 4, 0, 0, 0, 0, 0, 0, 0,
-        6, 0, 0, 0, 4, 0, 0, 0, 64, 0, 0, 0, 0, 0, 0, 0,
-        64, 0, 0, 0, 0, 0, 0, 0, 64, 0, 0, 0, 0, 0, 0, 0,
-        224, 0, 0, 0, 0, 0, 0, 0, 224, 0, 0, 0, 0, 0, 0, 0,
-        8, 0, 0, 0, 0, 0, 0, 0, 3, 0, 0, 0, 4, 0, 0, 0,
-        32, 1, 0, 0, 0, 0, 0, 0, 32, 1, 0, 0, 0, 0, 0, 0,
-        32, 1, 0, 0, 0, 0, 0, 0, 28, 0, 0, 0, 0, 0, 0, 0,
-        28, 0, 0, 0, 0, 0, 0, 0, 1, 0, 0, 0, 0, 0, 0, 0,
-        1, 0, 0, 0, 6, 0, 0, 0, 0, 0, 0, 0, 0, 0, 0, 0,
-        0, 0, 0, 0, 0, 0, 0, 0, 0, 0, 0, 0, 0, 0, 0, 0,
-        232, 1, 0, 0, 0, 0, 0, 0, 232, 1, 0, 0, 0, 0, 0, 0,
-        0, 16, 0, 0, 0, 0, 0, 0, 2, 0, 0, 0, 6, 0, 0, 0,
-        120, 1, 0, 0, 0, 0, 0, 0, 120, 1, 0, 0, 0, 0, 0, 0,
-        120, 1, 0, 0, 0, 0, 0, 0, 112, 0, 0, 0, 0, 0, 0, 0,
-        112, 0, 0, 0, 0, 0, 0, 0, 8, 0, 0, 0, 0, 0, 0, 0,
-        47, 108, 105, 98, 54, 52, 47, 108, 100, 45, 108, 105, 110, 117, 120, 45,
-        120, 56, 54, 45, 54, 52, 46, 115, 111, 46, 50, 0, 0, 0, 0, 0,
-        0, 108, 105, 98, 99, 46, 115, 111, 46, 54, 0, 0, 0, 0, 0, 0,
-        0, 0, 0, 0, 0, 0, 0, 0, 0, 0, 0, 0, 0, 0, 0, 0,
-        0, 0, 0, 0, 0, 0, 0, 0, 1, 0, 0, 0, 1, 0, 0, 0,
-        0, 0, 0, 0, 0, 0, 0, 0, 1, 0, 0, 0, 0, 0, 0, 0,
-        1, 0, 0, 0, 0, 0, 0, 0, 4, 0, 0, 0, 0, 0, 0, 0,
-        104, 1, 0, 0, 0, 0, 0, 0, 5, 0, 0, 0, 0, 0, 0, 0,
-        64, 1, 0, 0, 0, 0, 0, 0, 6, 0, 0, 0, 0, 0, 0, 0,
-        80, 1, 0, 0, 0, 0, 0, 0, 10, 0, 0, 0, 0, 0, 0, 0,
-        11, 0, 0, 0, 0, 0, 0, 0, 11, 0, 0, 0, 0, 0, 0, 0,
-        24, 0, 0, 0, 0, 0, 0, 0, 0, 0, 0, 0, 0, 0, 0, 0,
-        0, 0, 0, 0, 0, 0, 0, 0,
-    ]
-}
+/// In the library: the soname, at the string place 1.
+const SONAME: usize = 177;
+/// The first need, at the string place 3.
+const FIRST_NEED: usize = 179;
+/// The run path, at the string place 7.
+const RUN_PATH: usize = 183;
+/// The name of the symbol 1, at the string place 10.
+const PUTS: usize = 186;
+/// The name of the symbol 2.
+const DEFINED_NAME: usize = 191;
+/// The name of the version that the library defines.
+const VERSION_NAME: usize = 195;
+/// The version index of the symbol 1.
+const PUTS_VERSION: usize = 338;
+/// `vn_cnt`, how many versions are asked of the file.
+const NEED_COUNT: usize = 402;
+/// `vn_file`, the string place of the file that versions are needed of.
+const VERSION_FILE: usize = 404;
+/// The tags of the entries for the first need, the soname and `DT_SYMBOLIC`, and the value of the last.
+const FIRST_NEED_TAG: usize = 448;
+
+const SONAME_TAG: usize = 480;
+
+const SYMBOLIC_TAG: usize = 512;
+
+const SYMBOLIC_VALUE: usize = 520;
+
+/// The tags of other entries.
+const NEEDED: u8 = 1;
+
+const SONAME_ENTRY: u8 = 14;
+
+const FLAGS: u8 = 30;
+/// A byte that stands in no UTF-8.
+const NO_TEXT: u8 = 0xff;
 
 /// A symbolic library `q` that needs `c` and `d` and has the run path `/r`: two program headers at 64, the
 /// strings at 176, the symbols at 208, versions from 336 on, the dynamic table at 448. It calls `puts`
@@ -110,174 +108,190 @@ fn changed(alloc: Global, bytes: &[u8], changes: &[(usize, u8)]) -> Result<Vec<u
     Ok(all)
 }
 
-/// The first flaw of the bytes with these changes.
-fn flaw_with(
-    alloc: Global,
-    bytes: &[u8],
-    changes: &[(usize, u8)],
-) -> Result<Option<Flaw>, AllocError> {
-    let bytes = changed(alloc, bytes, changes)?;
-    Ok(match read_face(alloc, &bytes) {
-        Ok(_) => None,
-        Err(fault) => flaw_of(&fault),
-    })
-}
-
-fn bad_name(at: u64) -> Option<Flaw> {
-    Some(Flaw {
-        code: BAD_NAME,
-        a: at,
-        b: 0,
-    })
-}
-
-/// Is there a name, and is it this one?
-fn is_named(name: &Option<Name>, wanted: &[u8]) -> bool {
-    match name {
-        Some(name) => name.as_bytes() == wanted,
-        None => false,
+/// Adds a word and a space; `-` where there is none.
+fn push_word(text: &mut Vec<u8>, word: &Option<Name>) -> Result<(), AllocError> {
+    match word {
+        Some(word) => text.extend_from_slice(word.as_bytes())?,
+        None => text.push(b'-')?,
     }
+    text.push(b' ')?;
+    Ok(())
 }
 
-/// Are these all the names, one letter each?
-fn are_named(names: &[Name], letters: &[u8]) -> bool {
-    names.len() == letters.len()
-        && names
-            .iter()
-            .zip(letters.iter())
-            .all(|(name, letter)| name.as_bytes() == [*letter].as_slice())
+/// Adds names, with a space before each.
+fn push_names(text: &mut Vec<u8>, names: &[Name]) -> Result<(), AllocError> {
+    for name in names {
+        text.push(b' ')?;
+        text.extend_from_slice(name.as_bytes())?;
+    }
+    Ok(())
 }
 
-/// The index of a symbol's version, and its only letter.
-fn version_of(sym: &Sym) -> (u16, Option<u8>) {
+/// Adds a line of a symbol: its name and version, with a star where it is hidden, whether it is defined
+/// and has a value, and its binding, type and visibility.
+fn push_symbol(alloc: Global, text: &mut Vec<u8>, sym: &Sym) -> Result<(), AllocError> {
+    text.push(b'\n')?;
+    text.extend_from_slice(sym.name.as_bytes())?;
+    text.push(b' ')?;
     match &sym.version {
-        Ver::Local => (0, None),
-        Ver::Global => (1, None),
-        Ver::Named { index, name } => (*index, name.as_bytes().first().copied()),
-    }
-}
-
-/// The face of the bytes, where they have one.
-fn face_of(alloc: Global, bytes: &[u8]) -> Option<Face> {
-    read_face(alloc, bytes).ok()
-}
-
-#[test]
-fn smallest_program(rt: HostRuntime) {
-    let Some(face) = face_of(rt.alloc(), &smallest()) else {
-        assert!(rt; false);
-        return;
-    };
-    assert_eq!(rt; face.machine, 62);
-    assert!(rt; is_named(&face.interp, b"/lib64/ld-linux-x86-64.so.2"));
-    assert!(rt; face.soname.is_none() && face.rpath.is_none() && face.runpath.is_none());
-    let needs = face.needs.as_slice();
-    assert!(rt; needs.len() == 1 && needs[0].as_bytes() == b"libc.so.6".as_slice());
-    assert!(rt; !face.symbolic && !face.versioned);
-    assert_eq!(rt; face.syms.as_slice().len(), 1);
-    assert!(rt; face.defs.as_slice().is_empty() && face.asks.as_slice().is_empty());
-}
-
-#[test]
-fn library_names(rt: HostRuntime) {
-    let Some(face) = face_of(rt.alloc(), &library()) else {
-        assert!(rt; false);
-        return;
-    };
-    assert!(rt; face.interp.is_none() && face.rpath.is_none());
-    assert!(rt; is_named(&face.soname, b"q") && is_named(&face.runpath, b"/r"));
-    assert!(rt; are_named(face.needs.as_slice(), b"cd"));
-    assert!(rt; face.symbolic && face.versioned);
-    assert!(rt; are_named(face.defs.as_slice(), b"qV"));
-    let asks = face.asks.as_slice();
-    assert_eq!(rt; asks.len(), 2);
-    assert!(rt;
-        asks[0].file.as_bytes() == b"c".as_slice() && asks[0].name.as_bytes() == b"G".as_slice()
-    );
-    assert!(rt; !asks[0].weak && asks[1].weak);
-}
-
-#[test]
-fn library_symbols(rt: HostRuntime) {
-    let Some(face) = face_of(rt.alloc(), &library()) else {
-        assert!(rt; false);
-        return;
-    };
-    let syms = face.syms.as_slice();
-    assert_eq!(rt; syms.len(), 4);
-    for (i, name, version, hidden, defined, kind) in [
-        (
-            1,
-            b"puts".as_slice(),
-            (3, Some(b'G')),
-            false,
-            false,
-            STT_FUNC,
-        ),
-        (2, b"f".as_slice(), (2, Some(b'V')), true, true, STT_FUNC),
-        (3, b"v".as_slice(), (1, None), false, true, STT_OBJECT),
-    ] {
-        let Some(sym) = syms.get(i) else {
-            assert!(rt; false);
-            return;
-        };
-        assert!(rt; sym.name.as_bytes() == name && version_of(sym) == version);
-        assert!(rt; sym.hidden == hidden && sym.defined == defined && sym.value_set == defined);
-        assert!(rt; sym.binding == STB_GLOBAL && sym.kind == kind && sym.visibility == STV_DEFAULT);
-    }
-}
-
-#[test]
-fn symbolic_by_its_bit(rt: HostRuntime) -> Result<(), AllocError> {
-    let alloc = rt.alloc();
-    // DT_FLAGS in place of DT_SYMBOLIC.
-    for (flags, symbolic) in [(2, true), (3, true), (5, false)] {
-        let bytes = changed(alloc, &library(), &[(512, 30), (520, flags)])?;
-        match face_of(alloc, &bytes) {
-            Some(face) => assert_eq!(rt; face.symbolic, symbolic),
-            None => assert!(rt; false),
+        Ver::Local => text.push(b'0')?,
+        Ver::Global => text.push(b'1')?,
+        Ver::Named { index, name } => {
+            text.extend_from_slice(name.as_bytes())?;
+            text.extend_from_slice(format!(in alloc; "@{index}")?.as_bytes())?;
         }
+    }
+    let hidden = if sym.hidden { "*" } else { "" };
+    let (defined, set) = (sym.defined, sym.value_set);
+    let (binding, kind, visibility) = (sym.binding, sym.kind, sym.visibility);
+    let rest = format!(in alloc; "{hidden} {defined} {set} {binding} {kind} {visibility}")?;
+    text.extend_from_slice(rest.as_bytes())
+}
+
+/// A face as a text: interpreter, soname, run paths, machine, whether it is symbolic and has version
+/// indexes; needs; definitions; asks, with a question mark where they may be missing; symbols.
+fn described(alloc: Global, face: &Face) -> Result<Vec<u8>, AllocError> {
+    let mut text = Vec::new(alloc);
+    push_word(&mut text, &face.interp)?;
+    push_word(&mut text, &face.soname)?;
+    push_word(&mut text, &face.rpath)?;
+    push_word(&mut text, &face.runpath)?;
+    let (machine, symbolic, versioned) = (face.machine, face.symbolic, face.versioned);
+    let line = format!(in alloc; "{machine} {symbolic} {versioned}, needs")?;
+    text.extend_from_slice(line.as_bytes())?;
+    push_names(&mut text, face.needs.as_slice())?;
+    text.extend_from_slice(b", defines")?;
+    push_names(&mut text, face.defs.as_slice())?;
+    text.extend_from_slice(b", asks")?;
+    for ask in face.asks.as_slice() {
+        text.push(b' ')?;
+        text.extend_from_slice(ask.file.as_bytes())?;
+        text.push(if ask.weak { b'?' } else { b':' })?;
+        text.extend_from_slice(ask.name.as_bytes())?;
+    }
+    for sym in face.syms.as_slice() {
+        push_symbol(alloc, &mut text, sym)?;
+    }
+    Ok(text)
+}
+
+const PROGRAM_FACE: &str =
+    "/lib64/ld-linux-x86-64.so.2 - - - 62 false false, needs libc.so.6, defines, asks
+ 1 false false 0 0 0";
+
+const LIBRARY_FACE: &str = "- q - /r 62 true true, needs c d, defines q V, asks c:G c?W
+ 0 false false 0 0 0
+puts G@3 false false 1 2 0
+f V@2* true true 1 2 0
+v 1 true true 1 1 0";
+
+#[test]
+fn faces(rt: HostRuntime) -> Result<(), Fail> {
+    let alloc = rt.alloc();
+    for (bytes, text) in [
+        (smallest_program().as_slice(), PROGRAM_FACE),
+        (library().as_slice(), LIBRARY_FACE),
+    ] {
+        let face = read_face(alloc, bytes)?;
+        assert_eq!(rt; described(alloc, &face)?.as_slice(), text.as_bytes());
     }
     Ok(())
 }
 
 #[test]
-fn names_that_are_no_text(rt: HostRuntime) -> Result<(), AllocError> {
+fn symbolic_by_the_bit_of_its_flags(rt: HostRuntime) -> Result<(), Fail> {
     let alloc = rt.alloc();
-    let program = smallest();
-    assert_eq!(rt; flaw_with(alloc, &program, &[(288, 0xff)])?, bad_name(288));
-    assert_eq!(rt;
-        flaw_with(alloc, &program, &[(288, 0xff), (321, 0xff)])?,
-        bad_name(1)
-    );
-    let library = library();
-    assert_eq!(rt; flaw_with(alloc, &library, &[(177, 0xff)])?, bad_name(1));
-    assert_eq!(rt; flaw_with(alloc, &library, &[(183, 0xff)])?, bad_name(7));
-    // The needs come first, also where the soname stands before them.
-    assert_eq!(rt;
-        flaw_with(
-            alloc,
-            &library,
-            &[(448, 14), (480, 1), (177, 0xff), (179, 0xff)]
-        )?,
-        bad_name(1)
-    );
-    // The file that versions are needed of.
-    assert_eq!(rt;
-        flaw_with(alloc, &library, &[(404, 10), (186, 0xff)])?,
-        bad_name(10)
-    );
-    // The names of symbols and versions need not be text.
-    assert_eq!(rt;
-        flaw_with(alloc, &library, &[(191, 0xff), (195, 0xff)])?,
-        None
-    );
-    // A flaw of the headers comes before.
-    let class = Some(Flaw {
-        code: CLASS,
-        a: 1,
-        b: 0,
-    });
-    assert_eq!(rt; flaw_with(alloc, &library, &[(4, 1), (177, 0xff)])?, class);
+    for (flags, symbolic) in [(2, true), (3, true), (5, false)] {
+        let changes = [(SYMBOLIC_TAG, FLAGS), (SYMBOLIC_VALUE, flags)];
+        let bytes = changed(alloc, &library(), &changes)?;
+        assert_eq!(rt; read_face(alloc, &bytes)?.symbolic, symbolic);
+    }
+    Ok(())
+}
+
+#[test]
+fn names_that_are_no_text(rt: HostRuntime) -> Result<(), Fail> {
+    let alloc = rt.alloc();
+    let (program, library) = (smallest_program(), library());
+    let (program, library) = (program.as_slice(), library.as_slice());
+    let no_need = [
+        (NEED_COUNT, 0),
+        (PUTS_VERSION, 1),
+        (VERSION_FILE, 10),
+        (PUTS, NO_TEXT),
+    ];
+    let rows = [
+        (
+            "the interpreter",
+            program,
+            [(INTERPRETER, NO_TEXT)].as_slice(),
+            Some((BAD_NAME, 288)),
+        ),
+        (
+            "the interpreter behind a need",
+            program,
+            &[(INTERPRETER, NO_TEXT), (NEEDED_NAME, NO_TEXT)],
+            Some((BAD_NAME, 1)),
+        ),
+        (
+            "the soname",
+            library,
+            &[(SONAME, NO_TEXT)],
+            Some((BAD_NAME, 1)),
+        ),
+        (
+            "the run path",
+            library,
+            &[(RUN_PATH, NO_TEXT)],
+            Some((BAD_NAME, 7)),
+        ),
+        (
+            "a need that stands behind the soname, before it",
+            library,
+            &[
+                (FIRST_NEED_TAG, SONAME_ENTRY),
+                (SONAME_TAG, NEEDED),
+                (SONAME, NO_TEXT),
+                (FIRST_NEED, NO_TEXT),
+            ],
+            Some((BAD_NAME, 1)),
+        ),
+        (
+            "the file that versions are needed of",
+            library,
+            &[(VERSION_FILE, 10), (PUTS, NO_TEXT)],
+            Some((BAD_NAME, 10)),
+        ),
+        (
+            "a file of which no version is asked",
+            library,
+            no_need.as_slice(),
+            None,
+        ),
+        (
+            "names of symbols and versions",
+            library,
+            &[(DEFINED_NAME, NO_TEXT), (VERSION_NAME, NO_TEXT)],
+            None,
+        ),
+        (
+            "a flaw of the headers before",
+            library,
+            &[(CLASS_PLACE, 1), (SONAME, NO_TEXT)],
+            Some((CLASS, 1)),
+        ),
+    ];
+    for (what, file, changes, found) in rows {
+        let bytes = changed(alloc, file, changes)?;
+        let flaw = match read_face(alloc, &bytes) {
+            Ok(_) => None,
+            Err(fault) => flaw_of(&fault),
+        };
+        assert_eq!(rt;
+            flaw,
+            found.map(|(code, a)| Flaw { code, a, b: 0 }),
+            "{what}"
+        );
+    }
     Ok(())
 }

@@ -17,7 +17,7 @@ use Rattle.byte_view.specs.declared.segments.Segment.{Segment}
 use Rattle.load_model.specs.SymbolFlaws.{symbol_count, symbol_flaw, symbols_of}
 use Rattle.load_model.specs.SymbolWords.{binding_of, has_value, is_defined, type_of, visibility_of}
 use Rattle.load_model.specs.VersionFlaws.{version_flaw}
-use Rattle.load_model.specs.VersionTables.{asks_of, definitions_of, dynamic_value, is_hidden, is_versioned, text_of, verneeds, version_of, vn_file}
+use Rattle.load_model.specs.VersionTables.{asks_of, definitions_of, dynamic_value, is_hidden, is_versioned, text_of, verneeds, version_of, vn_cnt, vn_file}
 use Rattle.load_model.specs.declared.faces.Face.{Face}
 use Rattle.load_model.specs.declared.symbols.RawSym.{RawSym}
 use Rattle.load_model.specs.declared.symbols.Sym.{Sym}
@@ -100,9 +100,12 @@ bad_place file tag entries = option_map (λ e. e.value) (find (λ e. (e.tag == t
 abbrev pub bad_text_of : List ℕ → ℕ → Option Flaw
 bad_text_of file tag = flaw_at BAD_NAME (bad_place file tag (dynamic_entries file))
 
--- the first of the files that versions are needed of
+-- a need of which a version is asked, and whose file is no text; the first such file
+abbrev pub names_no_text : List ℕ → ℕ → Bool
+names_no_text file verneed = not (vn_cnt file verneed == 0) && is_no_text file (vn_file file verneed)
+
 abbrev pub bad_version_file : List ℕ → Option Flaw
-bad_version_file file = flaw_at BAD_NAME (find (is_no_text file) (map (vn_file file) (verneeds file)))
+bad_version_file file = flaw_at BAD_NAME (option_map (vn_file file) (find (names_no_text file) (verneeds file)))
 
 -- or the interpreter's path, by its place in the file
 abbrev pub bad_path_in : List ℕ → Option Segment → Option Flaw

@@ -1,8 +1,7 @@
--- the symbols so far, and those that are left, are all
-use Rattle.std.proofs.Common.{◌≡◌, ◌++◌, drop, map}
-use Rattle.std.specs.List.{enumerate_from}
-use Rattle.load_model.specs.Faces.{sym_at}
+-- the symbols so far are those of what was seen
+use Rattle.std.proofs.Common.{◌≡◌, map}
+use Rattle.load_model.specs.Faces.{sym_of}
 use Rattle.elf_face.proofs.symbols.syms_of.Given as goal
 
-abbrev pub invariant-loop-i : goal.invariant-loop-i
-invariant-loop-i l = l.syms ++ map (sym_at l.bytes) (enumerate_from l.i (drop l.i l.symbols)) ≡ map (sym_at l.bytes) (enumerate_from 0 l.symbols)
+abbrev pub invariant-symbols : goal.invariant-symbols
+invariant-symbols l = l.syms ≡ map (λ p. sym_of l.bytes p.0.0.now p.0.1 p.1) l.yielded
