@@ -1,12 +1,12 @@
 -- A world with one file more.
-use Rattle.std.proofs.Common.{ℕ, zero, suc, List, [], ◌∷◌, ◌++◌, ◌≡◌, ◌⊎◌, inl, inr, Bool, true, false, not, ◌||◌, ◌&&◌, length, refl, ap, sym, ◌∙◌, subst, Some, slice_get, bytes_eq}
+use Rattle.std.proofs.Common.{ℕ, zero, suc, List, [], ◌∷◌, ◌++◌, ◌≡◌, ◌⊎◌, inl, inr, Bool, true, false, not, ◌||◌, ◌&&◌, length, refl, ap, sym, ◌∙◌, subst, Result, Ok, Err, OnOk, OnErr, Some, slice_get, bytes_eq}
 use Rattle.std.specs.List.{list_any}
 use Rattle.std.proofs.lemmas.List.Elements.{All-append, All-cons, All-nil}
 use Rattle.std.proofs.lemmas.Slice.Eq.{bytes_eq-Decides}
-use Rattle.path_text.specs.Path.{IsNormalPath}
-use Rattle.load_model.specs.World.{World, IsWorld}
+use Rattle.path_text.specs.Path.{path_of}
+use Rattle.load_model.specs.World.{World}
 use Rattle.load_model.specs.declared.world.WorldFile.{WorldFile}
-use Rattle.ports.specs.MemTree.{clashes, is_taken}
+use Rattle.ports.specs.MemTree.{IsStored, clashes, is_taken}
 
 or_left : (a b : Bool) → (a || b) ≡ false → a ≡ false
 or_left false b h = refl
@@ -47,7 +47,7 @@ same_bytes file other free same =
     let found : bytes_eq other.id file.id ≡ true = (bytes_eq-Decides other.id file.id).1 same in
     (bytes_eq-Decides other.bytes file.bytes).0 (and_not _ _ (or_right _ _ free) found)
 
-module _ (world : World) (file : WorldFile) (was : IsWorld world) (free : is_taken world file.path file.id file.bytes ≡ false) where
+module _ (world : World) (file : WorldFile) (was : IsStored world) (free : is_taken world file.path file.id file.bytes ≡ false) where
   distinct_push : (i j : ℕ) (f g : WorldFile) → slice_get (world ++ file ∷ []) i ≡ Some f → slice_get (world ++ file ∷ []) j ≡ Some g → f.path ≡ g.path → i ≡ j
   distinct_push i j f g at_i at_j same =
       elim (slice_get-push world file i f at_i) [
@@ -75,9 +75,14 @@ module _ (world : World) (file : WorldFile) (was : IsWorld world) (free : is_tak
       ]
 
   -- a world stays one with a file whose path is free, and whose identity has no other bytes
-  pub IsWorld-push : IsNormalPath file.path → IsWorld (world ++ file ∷ [])
-  IsWorld-push normal = record {
-    paths = All-append (λ f. IsNormalPath f.path) world (file ∷ []) was.paths (All-cons (λ f. IsNormalPath f.path) file [] normal (All-nil (λ f. IsNormalPath f.path)));
+  pub IsStored-push : path_of file.path ≡ Ok file.path → IsStored (world ++ file ∷ [])
+  IsStored-push normal = record {
+    paths = All-append (λ f. path_of f.path ≡ Ok f.path) world (file ∷ []) was.paths (All-cons (λ f. path_of f.path ≡ Ok f.path) file [] normal (All-nil (λ f. path_of f.path ≡ Ok f.path)));
     distinct = distinct_push;
     same_bytes = same_bytes_push;
   }
+
+-- a world that took a file or stayed as it was
+pub stored_either : {A E : Type 0} (result : Result A E) (before after now : World) → OnOk result (now ≡ after) → OnErr result (now ≡ before) → IsStored before → IsStored after → IsStored now
+stored_either (Ok value) before after now took stayed was is = subst IsStored (sym took) is
+stored_either (Err error) before after now took stayed was is = subst IsStored (sym stayed) was

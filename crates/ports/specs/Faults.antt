@@ -1,11 +1,10 @@
 -- Counts of faults, which stand still at their last value.
-use Rattle.std.specs.Prelude.{ℕ, ◌+◌, ◌-◌, ◌^◌, ◌≤◌, min, Result, OnErr}
+use Rattle.std.specs.Prelude.{ℕ, ◌+◌, ◌-◌, ◌^◌, ◌≤◌, min}
+
+-- the count after one more: it stands still at its last value
+abbrev pub one_more : ℕ → ℕ
+one_more count = min (count + 1) (2 ^ 64 - 1)
 
 -- greater than before, or at the last value
 abbrev pub Rose : ℕ → ℕ → Type 0
-Rose before now = min (before + 1) (2 ^ 64 - 1) ≤ now
-
--- the count of faults fell in no case, and it rose where the call failed
-pub record HasCause {A E : Type 0} (before now : ℕ) (result : Result A E) : Type 0 where
-  pub never_falls : before ≤ now
-  pub failed : OnErr result (Rose before now)
+Rose before now = one_more before ≤ now

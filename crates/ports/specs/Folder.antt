@@ -1,42 +1,62 @@
--- What the calls of a folder do to its files.
-use Rattle.std.specs.Prelude.{ℕ, Bool, List, [], ◌∷◌, ◌++◌, ◌≡◌, ◌≢◌, Option, Some, None, option_map}
+-- A folder that is written, and what its calls do to it.
+use Rattle.std.specs.Prelude.{ℕ, Bool, List, [], ◌∷◌, ◌++◌, ◌≡◌, Option, Some, None, IsNone, option_map}
 use Rattle.ports.specs.declared.folders.MemFile.{MemFile}
 use Rattle.ports.specs.declared.folders.RootState.{RootState}
 use Rattle.ports.specs.declared.folders.RootState.TheVariants.{Empty, NotEmpty}
 use Rattle.ports.specs.Told.{WhereTold}
+use Rattle.ports.specs.View.{View}
+
+-- the finished files in order, the open file, and the paths of all roots that were opened
+pub record Folder : Type 0 where
+  pub finished : List MemFile
+  pub pending : Option MemFile
+  pub roots : List (List ℕ)
 
 -- a folder is empty where it holds no finished file
 abbrev pub root_state : List MemFile → RootState
 root_state [] = Empty
 root_state (_ ∷ _) = NotEmpty
 
+-- no file is open
+abbrev pub IsClosed : View Folder → Type 0
+IsClosed view = WhereTold view.told (λ folder. IsNone folder.pending)
+
+-- no root was opened, and no file begun
+abbrev pub empty_folder : Folder
+empty_folder = record { finished = []; pending = None; roots = [] }
+
+-- after a root was opened, which gives up the open file
+abbrev pub with_root : List ℕ → Folder → Folder
+with_root path folder = record { finished = folder.finished; pending = None; roots = folder.roots ++ path ∷ [] }
+
 abbrev pub empty_file : List ℕ → Bool → MemFile
 empty_file path executable = record { path = path; executable = executable; bytes = [] }
+
+-- after a file with this path and mark was begun
+abbrev pub begun : List ℕ → Bool → Folder → Folder
+begun path executable folder = record { finished = folder.finished; pending = Some (empty_file path executable); roots = folder.roots }
 
 -- the file with a piece at its end
 abbrev pub grown_file : List ℕ → MemFile → MemFile
 grown_file piece file = record { path = file.path; executable = file.executable; bytes = file.bytes ++ piece }
 
--- the open file with a piece at its end
-abbrev pub grow_open : List ℕ → Option MemFile → Option MemFile
-grow_open piece file = option_map (grown_file piece) file
+-- after a piece was added to the open file
+abbrev pub grown : List ℕ → Folder → Folder
+grown piece folder = record { finished = folder.finished; pending = option_map (grown_file piece) folder.pending; roots = folder.roots }
 
--- no file is open
-abbrev pub close : Option MemFile → Option MemFile
-close _ = None
+abbrev pub file_list : Option MemFile → List MemFile
+file_list (Some file) = file ∷ []
+file_list None = []
 
-abbrev pub file_list : Option (Option MemFile) → List MemFile
-file_list (Some (Some file)) = file ∷ []
-file_list _ = []
+-- after the open file was finished
+abbrev pub closed : Folder → Folder
+closed folder = record { finished = folder.finished ++ file_list folder.pending; pending = None; roots = folder.roots }
 
--- the finished files, with the open file at their end
-abbrev pub finished_with : Option (Option MemFile) → List MemFile → List MemFile
-finished_with file files = files ++ file_list file
+-- after these files were written whole
+abbrev pub with_files : List MemFile → Folder → Folder
+with_files files folder = record { finished = folder.finished ++ files; pending = None; roots = folder.roots }
 
--- a root was opened
-abbrev pub IsOpened : Option (List (List ℕ)) → Type 0
-IsOpened roots = WhereTold roots (λ paths. paths ≢ [])
-
--- the finished files, where they are told, are those from before and then these
-abbrev pub GrewBy : Option (List MemFile) → Option (List MemFile) → List MemFile → Type 0
-GrewBy before now files = now ≡ option_map (λ old. old ++ files) before
+-- these files were added at the end, and no root was opened
+pub record Added (files : List MemFile) (old now : Folder) : Type 0 where
+  pub finished : now.finished ≡ old.finished ++ files
+  pub roots : now.roots ≡ old.roots

@@ -1,5 +1,10 @@
-ghost use Rattle.std.specs.Prelude.{◌≡◌, ◌<◌, ◌≤◌, OnOk, OnErr, IfOk};
-ghost use Rattle.ports.specs.Calls.{no_calls, with_failing, is_listed, is_to_fail, after_call, faulted, raised};
+//! The calls that a form in memory had, and those of them that are to fail.
+//!
+//! The words are those of `specs/Calls.antt`.
+
+ghost use Rattle.std.specs.Prelude.{◌≡◌, ◌<◌, ◌≤◌, OnOk, OnErr};
+ghost use Rattle.ports.specs.Calls.{after_call, faulted, no_calls, starved};
+ghost use Rattle.ports.specs.Calls.{fails_at, is_to_fail, with_failing};
 
 use crate::Failed;
 use load_model::{List, NoMemory};
@@ -8,20 +13,21 @@ use std::alloc::Global;
 /// The number of methods of the trait that has most.
 pub const METHODS: usize = 4;
 
-/// A call that is to fail: the number of its method in the order of the trait, from 0, and its own number among the
-/// calls of this method, from 1.
+/// A call that is to fail: the number of its method in the order of the trait, from 0, and its own
+/// number among the calls of this method, from 1.
 #[derive(Clone, Copy, PartialEq, Eq, Debug)]
 pub struct Call {
     pub method: u8,
     pub number: u64,
 }
 
-/// The calls that a form in memory had, by method, those that are to fail, and the faults so far. The counts stand
-/// still at their last value.
+/// The calls that a form in memory had, by method, those that are to fail, the growths that memory
+/// refused, and the faults so far. The counts stand still at their last value.
 #[derive(Drop)]
 pub struct Calls {
     failing: List<Call>,
     made: [u64; METHODS],
+    refused: u64,
     faults: u64,
 }
 
@@ -33,6 +39,7 @@ impl Calls {
         Calls {
             failing: List::new(alloc),
             made: [0; METHODS],
+            refused: 0,
             faults: 0,
         }
     }
@@ -53,7 +60,7 @@ impl Calls {
         ensures never_falls { self.old.faults ≤ self.new.faults }
     {
         let number = self.made[method as usize].saturating_add(1);
-        let fails = self.is_listed(method, number);
+        let fails = self.fails_at(method, number);
         self.made[method as usize] = number;
         if fails {
             self.fault();
@@ -62,8 +69,8 @@ impl Calls {
     }
 
     // Whether this call is on the list of those that are to fail.
-    fn is_listed(&self, method: u8, number: u64) -> bool
-        ensures { result ≡ is_listed self.now.failing method number }
+    fn fails_at(&self, method: u8, number: u64) -> bool
+        ensures { result ≡ fails_at self.now.failing method number }
     {
         self.failing
             .as_slice()
@@ -71,22 +78,28 @@ impl Calls {
             .any(|call| call.method == method && call.number == number)
     }
 
-    /// Counts a fault.
-    pub fn fault(&mut self)
+    // Counts a fault.
+    fn fault(&mut self)
         ensures counted { self.new ≡ faulted self.old }
         ensures never_falls { self.old.faults ≤ self.new.faults }
     {
         self.faults = self.faults.saturating_add(1);
     }
-}
 
-/// Counts a growth that memory refused, which is a fault too.
-pub fn refuse(refused: &mut u64, calls: &mut Calls) -> Failed
-    ensures refused { refused.new ≡ raised refused.old }
-    ensures counted { calls.new ≡ faulted calls.old }
-    ensures never_falls { calls.old.faults ≤ calls.new.faults }
-{
-    *refused = refused.saturating_add(1);
-    calls.fault();
-    Failed
+    /// Counts a growth that memory refused, which is a fault too.
+    pub fn refuse(&mut self) -> Failed
+        ensures counted { self.new ≡ starved self.old }
+        ensures never_falls { self.old.faults ≤ self.new.faults }
+    {
+        self.refused = self.refused.saturating_add(1);
+        self.fault();
+        Failed
+    }
+
+    /// How many growths memory refused.
+    pub fn refused(&self) -> u64
+        ensures { result ≡ self.now.refused }
+    {
+        self.refused
+    }
 }

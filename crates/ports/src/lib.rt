@@ -1,5 +1,5 @@
-//! The outside as three traits, a tree that is read, a folder that is written and a sink of printed bytes, with
-//! forms of them in memory.
+//! The outside as three traits, a tree that is read, a folder that is written and a sink of printed
+//! bytes, with forms of them in memory.
 #![tactic(auto)]
 
 mod calls;

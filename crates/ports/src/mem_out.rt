@@ -1,15 +1,27 @@
-ghost use Rattle.std.specs.Prelude.{◌≡◌, [], ◌∷◌, ◌++◌, Some, option_map, IsSome, IsNone, OnOk, OnErr, IfOk, IsErr, IsTrue};
-ghost use Rattle.ports.specs.Calls.{is_to_fail};
-ghost use Rattle.ports.specs.Faults.{HasCause};
-ghost use Rattle.ports.specs.Folder.{root_state, grow_open};
-ghost use Rattle.ports.specs.MemOut.{empty_folder, with_failing, stopped, rooted, begun, grown, finished, file_of};
+ghost use Rattle.std.specs.Prelude.{◌≡◌, [], ◌∷◌, ◌++◌, option_map};
+ghost use Rattle.std.specs.Prelude.{IsSome, IsNone, OnOk, OnErr, IfOk, IsErr, IsTrue};
+ghost use Rattle.ports.specs.Calls.{is_to_fail, with_failing};
+ghost use Rattle.ports.specs.Folder.{begun, closed, empty_folder, grown, grown_file};
+ghost use Rattle.ports.specs.Folder.{root_state, with_root};
+ghost use Rattle.ports.specs.InMemory.{after_err, after_ok, uncalled, view_of};
+ghost use Rattle.ports.specs.MemOut.{open_file};
+ghost use Rattle.ports.specs.View.{HasCause};
 
-use crate::calls::{Calls, refuse};
+use crate::calls::Calls;
 use crate::{Failed, MemFile, OutDir, RootState};
 use load_model::{List, Name, NoMemory, Text};
 use path_text::{Abs, Rel};
 use std::alloc::{AllocError, Global};
 use std::marker::Model;
+
+// the numbers of the methods
+const ROOT: u8 = 0;
+
+const BEGIN: u8 = 1;
+
+const APPEND: u8 = 2;
+
+const FINISH: u8 = 3;
 
 /// A file that is being written.
 #[derive(Drop)]
@@ -19,29 +31,31 @@ pub struct OpenFile {
     bytes: Vec<u8>,
 }
 
-/// A folder in memory, which tells its files and its roots. Of its calls those fail that are to, and those for which
-/// memory was refused; a failing call takes nothing.
+/// A folder in memory, which tells its files and its roots. Of its calls those fail that are to,
+/// and those for which memory was refused; a failing call takes nothing.
 #[derive(Drop)]
 pub struct MemOut {
     alloc: Global,
     finished: List<MemFile>,
     pending: Option<OpenFile>,
     roots: List<Name>,
-    refused: u64,
     calls: Calls,
 }
 
 impl Model for MemOut {
     ghost use Rattle.std.specs.Prelude.{option_map};
-    ghost use Rattle.ports.specs.MemOut.{FolderState, file_of};
+    ghost use Rattle.ports.specs.Folder.{Folder};
+    ghost use Rattle.ports.specs.InMemory.{InMemory};
+    ghost use Rattle.ports.specs.MemOut.{open_file};
 
-    ghost Value = { FolderState };
+    ghost Value = { InMemory Folder };
 
     ghost view = { λ folder. record {
-      finished = folder.finished;
-      pending = option_map file_of folder.pending;
-      roots = folder.roots;
-      refused = folder.refused;
+      held = record {
+        finished = folder.finished;
+        pending = option_map open_file folder.pending;
+        roots = folder.roots;
+      };
       calls = folder.calls;
     } };
 }
@@ -49,80 +63,76 @@ impl Model for MemOut {
 impl MemOut {
     /// A folder without files, of which no root was opened and no call is to fail.
     pub fn new(alloc: Global) -> Result<MemOut, NoMemory>
-        ensures { IfOk result (λ folder. folder ≡ empty_folder) }
+        ensures { IfOk result (λ folder. folder ≡ uncalled empty_folder) }
     {
         Ok(MemOut {
             alloc,
             finished: List::new(alloc),
             pending: None,
             roots: List::new(alloc),
-            refused: 0,
             calls: Calls::new(alloc),
         })
     }
 
-    /// Puts the number of a call, from 1, on the list of those that are to fail. `root` is method 0, `begin` 1,
-    /// `append` 2, `finish` 3.
+    /// Puts the number of a call, from 1, on the list of those that are to fail. `root` is method
+    /// 0, `begin` 1, `append` 2, `finish` 3.
     pub fn fail_at(&mut self, method: u8, call: u64) -> Result<(), NoMemory>
-        ensures ok { OnOk result (self.new ≡ with_failing self.old method call) }
-        ensures err { OnErr result (self.new ≡ self.old) }
+        ensures ok { OnOk result (self.new.calls ≡ with_failing self.old.calls method call) }
+        ensures err { OnErr result (self.new.calls ≡ self.old.calls) }
+        ensures stays { self.new.held ≡ self.old.held }
     {
         self.calls.fail_at(method, call)
     }
 
     /// The finished files, in order.
     pub fn finished(&self) -> &[MemFile]
-        ensures { result.now ≡ self.now.finished }
+        ensures { result.now ≡ self.now.held.finished }
     {
         self.finished.as_slice()
     }
 
     /// How many growths memory refused to the folder.
     pub fn refused(&self) -> u64
-        ensures { result ≡ self.now.refused }
+        ensures { result ≡ self.now.calls.refused }
     {
-        self.refused
+        self.calls.refused()
     }
 }
 
 impl OutDir for MemOut {
-    ghost finished = { λ folder. Some folder.finished };
+    ghost use Rattle.ports.specs.InMemory.{view_of};
 
-    ghost pending = { λ folder. Some folder.pending };
-
-    ghost roots = { λ folder. Some folder.roots };
-
-    ghost faults = { λ folder. folder.calls.faults };
+    ghost seen = { view_of };
 
     fn root(&mut self, path: &Abs) -> Result<RootState, Failed>
-        ensures listed { IsTrue (is_to_fail self.old.calls 0) → IsErr result }
-        ensures state { IfOk result (λ state. state ≡ root_state self.old.finished) }
-        ensures ok { OnOk result (self.new ≡ rooted self.old path.now) }
-        ensures err { OnErr result (self.new ≡ stopped self.old 0) }
-        ensures cause { HasCause self.old.calls.faults self.new.calls.faults result }
+        ensures listed { IsTrue (is_to_fail self.old.calls ROOT) → IsErr result }
+        ensures state { IfOk result (λ state. state ≡ root_state self.old.held.finished) }
+        ensures ok { OnOk result (self.new ≡ after_ok (with_root path.now) ROOT self.old) }
+        ensures err { OnErr result (self.new ≡ after_err ROOT self.old) }
+        ensures cause { HasCause (view_of self.old) (view_of self.new) result }
     {
-        if self.calls.strikes(0) {
+        if self.calls.strikes(ROOT) {
             return Err(Failed);
         }
         if remember(self.alloc, &mut self.roots, path).is_err() {
-            return Err(refuse(&mut self.refused, &mut self.calls));
+            return Err(self.calls.refuse());
         }
         let _unfinished = self.pending.take();
         Ok(root_state(self.finished.as_slice()))
     }
 
     fn begin(&mut self, path: &Rel, executable: bool) -> Result<(), Failed>
-        requires { IsNone self.old.pending }
-        ensures listed { IsTrue (is_to_fail self.old.calls 1) → IsErr result }
-        ensures ok { OnOk result (self.new ≡ begun self.old path.now executable) }
-        ensures err { OnErr result (self.new ≡ stopped self.old 1) }
-        ensures cause { HasCause self.old.calls.faults self.new.calls.faults result }
+        requires { IsNone self.old.held.pending }
+        ensures listed { IsTrue (is_to_fail self.old.calls BEGIN) → IsErr result }
+        ensures ok { OnOk result (self.new ≡ after_ok (begun path.now executable) BEGIN self.old) }
+        ensures err { OnErr result (self.new ≡ after_err BEGIN self.old) }
+        ensures cause { HasCause (view_of self.old) (view_of self.new) result }
     {
-        if self.calls.strikes(1) {
+        if self.calls.strikes(BEGIN) {
             return Err(Failed);
         }
         let Ok(path) = copied(self.alloc, path) else {
-            return Err(refuse(&mut self.refused, &mut self.calls));
+            return Err(self.calls.refuse());
         };
         self.pending = Some(OpenFile {
             path,
@@ -133,44 +143,40 @@ impl OutDir for MemOut {
     }
 
     fn append(&mut self, bytes: &[u8]) -> Result<(), Failed>
-        requires { IsSome self.old.pending }
-        ensures listed { IsTrue (is_to_fail self.old.calls 2) → IsErr result }
-        ensures ok { OnOk result (self.new ≡ grown self.old bytes.now) }
-        ensures err { OnErr result (self.new ≡ stopped self.old 2) }
-        ensures cause { HasCause self.old.calls.faults self.new.calls.faults result }
+        requires { IsSome self.old.held.pending }
+        ensures listed { IsTrue (is_to_fail self.old.calls APPEND) → IsErr result }
+        ensures ok { OnOk result (self.new ≡ after_ok (grown bytes.now) APPEND self.old) }
+        ensures err { OnErr result (self.new ≡ after_err APPEND self.old) }
+        ensures cause { HasCause (view_of self.old) (view_of self.new) result }
     {
-        if self.calls.strikes(2) {
+        if self.calls.strikes(APPEND) {
             return Err(Failed);
         }
         if grow(&mut self.pending, bytes).is_err() {
-            return Err(refuse(&mut self.refused, &mut self.calls));
+            return Err(self.calls.refuse());
         }
         Ok(())
     }
 
     fn finish(&mut self) -> Result<(), Failed>
-        requires { IsSome self.old.pending }
-        ensures listed { IsTrue (is_to_fail self.old.calls 3) → IsErr result }
-        ensures ok { OnOk result (self.new ≡ finished self.old) }
-        ensures err { OnErr result (self.new ≡ stopped self.old 3) }
-        ensures cause { HasCause self.old.calls.faults self.new.calls.faults result }
+        requires { IsSome self.old.held.pending }
+        ensures listed { IsTrue (is_to_fail self.old.calls FINISH) → IsErr result }
+        ensures ok { OnOk result (self.new ≡ after_ok closed FINISH self.old) }
+        ensures err { OnErr result (self.new ≡ after_err FINISH self.old) }
+        ensures cause { HasCause (view_of self.old) (view_of self.new) result }
     {
-        if self.calls.strikes(3) {
+        if self.calls.strikes(FINISH) {
             return Err(Failed);
         }
         let Some(file) = &self.pending else {
             unreachable!()
         };
         if keep(self.alloc, &mut self.finished, file).is_err() {
-            return Err(refuse(&mut self.refused, &mut self.calls));
+            return Err(self.calls.refuse());
         }
         self.pending = None;
         Ok(())
     }
-
-    ghost use Rattle.std.proofs.Common.{rules};
-
-    ghost tells_open = { λ folder told. Prim.search rules };
 }
 
 fn root_state(finished: &[MemFile]) -> RootState
@@ -194,8 +200,10 @@ fn remember(alloc: Global, roots: &mut List<Name>, path: &Abs) -> Result<(), NoM
 // Adds a piece to the open file.
 fn grow(pending: &mut Option<OpenFile>, bytes: &[u8]) -> Result<(), AllocError>
     requires { IsSome pending.old }
-    ensures ok { OnOk result (option_map file_of pending.new ≡ grow_open bytes.now (option_map file_of pending.old)) }
-    ensures err { OnErr result (option_map file_of pending.new ≡ option_map file_of pending.old) }
+    ensures ok { OnOk result (option_map open_file pending.new
+        ≡ option_map (grown_file bytes.now) (option_map open_file pending.old)) }
+    ensures err { OnErr result
+        (option_map open_file pending.new ≡ option_map open_file pending.old) }
 {
     match pending {
         Some(file) => file.bytes.extend_from_slice(bytes),
@@ -205,7 +213,7 @@ fn grow(pending: &mut Option<OpenFile>, bytes: &[u8]) -> Result<(), AllocError>
 
 // Adds a copy of the open file at the end of the finished files.
 fn keep(alloc: Global, finished: &mut List<MemFile>, file: &OpenFile) -> Result<(), NoMemory>
-    ensures ok { OnOk result (finished.new ≡ finished.old ++ file_of file.now ∷ []) }
+    ensures ok { OnOk result (finished.new ≡ finished.old ++ open_file file.now ∷ []) }
     ensures err { OnErr result (finished.new ≡ finished.old) }
 {
     let copy = MemFile {

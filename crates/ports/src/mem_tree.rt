@@ -1,21 +1,22 @@
-ghost use Rattle.std.specs.Prelude.{◌≡◌, ℕ, ◌<◌, ◌≤◌, ◌-◌, ◌↔◌, ◌++◌, List, length, map, min, take, drop, Some, OnOk, OnErr, IfOk, IsErr, IsTrue, option_map};
-ghost use Rattle.std.specs.Prelude.{find};
-ghost use Rattle.std.specs.List.{list_any};
-ghost use Rattle.std.specs.Option.{option_copied};
+ghost use Rattle.std.specs.Prelude.{◌≡◌, ◌<◌, ◌≤◌, ◌-◌, ◌↔◌, ◌++◌, [], length, min, take, drop};
+ghost use Rattle.std.specs.Prelude.{OnOk, OnErr, IfOk, IsErr, IsTrue, option_map};
 ghost use Rattle.std.specs.Str.{bytes_eq};
-ghost use Rattle.load_model.specs.World.{IsWorld, file_at};
-ghost use Rattle.ports.specs.Calls.{is_to_fail};
-ghost use Rattle.ports.specs.Faults.{HasCause};
-ghost use Rattle.ports.specs.Told.{WhereTold};
-ghost use Rattle.ports.specs.Reading.{found_at, bytes_at};
-ghost use Rattle.ports.specs.MemTree.{TreeState, empty_tree, with_failing, with_file, with_last, is_taken, world_of, file_of, clashes, called};
+ghost use Rattle.std.proofs.Props.{props};
+ghost use Rattle.load_model.specs.World.{file_at};
+ghost use Rattle.ports.specs.Calls.{after_call, is_to_fail, no_calls, with_failing};
+ghost use Rattle.ports.specs.MemTree.{IsStored, clashes, is_taken, with_last, world_file, world_of};
+ghost use Rattle.ports.specs.Reading.{bytes_at, found_at};
 
 use crate::calls::Calls;
 use crate::{Failed, Found, ProbeStop, Tree};
 use load_model::{List, Name, NoMemory, Text};
 use path_text::Abs;
 use std::alloc::Global;
-use std::marker::Model;
+
+// the numbers of the methods
+const PROBE: u8 = 0;
+
+const READ_AT: u8 = 1;
 
 /// Why a tree did not take a file.
 #[derive(Clone, Copy, PartialEq, Eq, Debug)]
@@ -38,23 +39,14 @@ pub struct MemTree {
     alloc: Global,
     files: List<StoredFile>,
     calls: Calls,
-}
-
-impl Model for MemTree {
-    ghost use Rattle.load_model.specs.World.{IsWorld};
-    ghost use Rattle.ports.specs.MemTree.{TreeState, world_of};
-
-    ghost Value = { TreeState };
-
-    ghost view = { λ tree. record { files = world_of tree.files; calls = tree.calls } };
-
-    ghost invariant = { λ tree. IsWorld (world_of tree.files) };
+    pub ghost stored: { IsStored (world_of files) } by { Prim.hlevel props },
 }
 
 impl MemTree {
     /// A tree without files, of which no call is to fail.
     pub fn new(alloc: Global) -> Result<MemTree, NoMemory>
-        ensures { IfOk result (λ tree. tree ≡ empty_tree) }
+        ensures files { IfOk result (λ tree. tree.files ≡ []) }
+        ensures calls { IfOk result (λ tree. tree.calls ≡ no_calls) }
     {
         Ok(MemTree {
             alloc,
@@ -63,12 +55,15 @@ impl MemTree {
         })
     }
 
-    /// Adds a file. It is Taken exactly where the path is there, or the identity is there with other bytes.
+    /// Adds a file. It is Taken exactly where the path is there, or the identity is there with
+    /// other bytes.
     pub fn add(&mut self, path: &Abs, id: &Name, bytes: &[u8]) -> Result<(), AddFault>
-        ensures taken { (result ≡ Err AddFault.Taken) ↔ IsTrue (is_taken self.old.files path.now id.now bytes.now) }
-        ensures ok { OnOk result (self.new ≡ with_file self.old path.now id.now bytes.now) }
-        ensures err { OnErr result (self.new ≡ self.old) }
-        ensures world { IsWorld self.new.files }
+        ensures taken { (result ≡ Err AddFault.Taken)
+            ↔ IsTrue (is_taken (world_of self.old.files) path.now id.now bytes.now) }
+        ensures ok { OnOk result (world_of self.new.files
+            ≡ with_last (world_of self.old.files) path.now id.now bytes.now) }
+        ensures err { OnErr result (self.new.files ≡ self.old.files) }
+        ensures calls { self.new.calls ≡ self.old.calls }
     {
         let path = path.as_str().as_bytes();
         if is_taken(self.files.as_slice(), path, id.as_bytes(), bytes) {
@@ -80,27 +75,43 @@ impl MemTree {
         }
     }
 
-    /// Puts the number of a call, from 1, on the list of those that are to fail. `probe` is method 0, `read_at` 1.
+    /// Puts the number of a call, from 1, on the list of those that are to fail. `probe` is method
+    /// 0, `read_at` 1.
     pub fn fail_at(&mut self, method: u8, call: u64) -> Result<(), NoMemory>
-        ensures ok { OnOk result (self.new ≡ with_failing self.old method call) }
-        ensures err { OnErr result (self.new ≡ self.old) }
+        ensures ok { OnOk result (self.new.calls ≡ with_failing self.old.calls method call) }
+        ensures err { OnErr result (self.new.calls ≡ self.old.calls) }
+        ensures stays { self.new.files ≡ self.old.files }
     {
         self.calls.fail_at(method, call)
     }
 }
 
 impl Tree for MemTree {
-    ghost told = { λ tree. Some tree.files };
+    ghost use Rattle.std.specs.Prelude.{IfSome, Some};
+    ghost use Rattle.std.proofs.Common.{subst};
+    ghost use Rattle.path_text.proofs.PathLemmas.{IsNormalPath-path_of};
+    ghost use Rattle.load_model.specs.World.{IsWorld};
 
-    ghost faults = { λ tree. tree.calls.faults };
+    ghost seen = { λ tree. record {
+      told = Some (world_of tree.files);
+      faults = tree.calls.faults;
+    } };
+
+    ghost tells_world = { λ tree world told. subst (λ some. IfSome some IsWorld) told (record {
+      paths = λ at none below. IsNormalPath-path_of _ _ (tree.stored.paths at none below);
+      distinct = tree.stored.distinct;
+      same_bytes = tree.stored.same_bytes;
+    }) };
 
     fn probe(&mut self, alloc: Global, path: &Abs) -> Result<Found, ProbeStop>
-        ensures failed { (result ≡ Err ProbeStop.Failed) ↔ IsTrue (is_to_fail self.old.calls 0) }
-        ensures found { IfOk result (λ found. found ≡ found_at self.old.files path.now) }
-        ensures counted { self.new ≡ called self.old 0 }
+        ensures failed { (result ≡ Err ProbeStop.Failed)
+            ↔ IsTrue (is_to_fail self.old.calls PROBE) }
+        ensures found { IfOk result (λ found. found ≡ found_at (world_of self.old.files) path.now) }
+        ensures files_stay { self.new.files ≡ self.old.files }
+        ensures counted { self.new.calls ≡ after_call self.old.calls PROBE }
         ensures never_falls { self.old.calls.faults ≤ self.new.calls.faults }
     {
-        if self.calls.strikes(0) {
+        if self.calls.strikes(PROBE) {
             return Err(ProbeStop::Failed);
         }
         let Some(file) = file_at(self.files.as_slice(), path.as_str().as_bytes()) else {
@@ -117,15 +128,18 @@ impl Tree for MemTree {
 
     fn read_at(&mut self, path: &Abs, at: u64, buf: &mut [u8]) -> Result<usize, Failed>
         requires room { 0 < length buf.old }
-        requires within { at < length (bytes_at self.old.files path.now) }
-        ensures failed { IsErr result ↔ IsTrue (is_to_fail self.old.calls 1) }
-        ensures count { IfOk result (λ n. n ≡ min (length buf.old) (length (bytes_at self.old.files path.now) - at)) }
-        ensures read { IfOk result (λ n. buf.new ≡ take n (drop at (bytes_at self.old.files path.now)) ++ drop n buf.old) }
+        requires within { at < length (bytes_at (world_of self.old.files) path.now) }
+        ensures failed { IsErr result ↔ IsTrue (is_to_fail self.old.calls READ_AT) }
+        ensures count { IfOk result (λ n. n ≡ min (length buf.old)
+            (length (bytes_at (world_of self.old.files) path.now) - at)) }
+        ensures read { IfOk result (λ n. buf.new
+            ≡ take n (drop at (bytes_at (world_of self.old.files) path.now)) ++ drop n buf.old) }
         ensures unread { OnErr result (buf.new ≡ buf.old) }
-        ensures counted { self.new ≡ called self.old 1 }
+        ensures files_stay { self.new.files ≡ self.old.files }
+        ensures counted { self.new.calls ≡ after_call self.old.calls READ_AT }
         ensures never_falls { self.old.calls.faults ≤ self.new.calls.faults }
     {
-        if self.calls.strikes(1) {
+        if self.calls.strikes(READ_AT) {
             return Err(Failed);
         }
         let bytes = bytes_at(self.files.as_slice(), path.as_str().as_bytes());
@@ -134,9 +148,6 @@ impl Tree for MemTree {
 }
 
 impl StoredFile {
-    ghost use Rattle.std.specs.Str.{bytes_eq};
-    ghost use Rattle.ports.specs.MemTree.{file_of, clashes};
-
     fn is_at(&self, path: &[u8]) -> bool
         ensures { result ≡ bytes_eq self.now.path path.now }
     {
@@ -144,7 +155,7 @@ impl StoredFile {
     }
 
     fn clashes(&self, path: &[u8], id: &[u8], bytes: &[u8]) -> bool
-        ensures { result ≡ clashes path.now id.now bytes.now (file_of self.now) }
+        ensures { result ≡ clashes path.now id.now bytes.now (world_file self.now) }
     {
         self.is_at(path) || (self.id.as_bytes() == id && self.bytes.as_bytes() != bytes)
     }
@@ -170,7 +181,8 @@ fn store(
     id: &[u8],
     bytes: &[u8],
 ) -> Result<(), NoMemory>
-    ensures ok { OnOk result (world_of files.new ≡ with_last (world_of files.old) path.now id.now bytes.now) }
+    ensures ok { OnOk result
+        (world_of files.new ≡ with_last (world_of files.old) path.now id.now bytes.now) }
     ensures err { OnErr result (files.new ≡ files.old) }
 {
     let file = StoredFile {
@@ -182,7 +194,8 @@ fn store(
 }
 
 fn file_at<'a>(files: &'a [StoredFile], path: &[u8]) -> Option<&'a StoredFile>
-    ensures { option_map (λ file. file_of file.now) result ≡ file_at (world_of files.now) path.now }
+    ensures { option_map (λ file. world_file file.now) result
+        ≡ file_at (world_of files.now) path.now }
 {
     for file in files {
         if file.is_at(path) {

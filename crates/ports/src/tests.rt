@@ -1,6 +1,6 @@
-ghost use Rattle.std.specs.Prelude.{◌≡◌, ◌∷◌, [], true, false, OnOk, option_map};
-ghost use Rattle.ports.specs.Faults.{HasCause};
-ghost use Rattle.ports.specs.Folder.{GrewBy, grown_file, empty_file};
+ghost use Rattle.std.specs.Prelude.{◌∷◌, [], true, OnOk};
+ghost use Rattle.ports.specs.Folder.{empty_file, grown_file, with_files, with_root};
+ghost use Rattle.ports.specs.View.{Became, HasCause};
 
 use super::*;
 use load_model::Name;
@@ -29,8 +29,11 @@ fn read_from<T: Tree>(
 
 /// Opens the folder and writes one executable file, in two pieces.
 fn write_file<O: OutDir>(out: &mut O, root: &Abs, path: &Rel) -> Result<RootState, Failed>
-    ensures ok { OnOk result (GrewBy (O.finished out.old) (O.finished out.new) (grown_file (97 ∷ 98 ∷ 99 ∷ []) (empty_file path.now true) ∷ [])) }
-    ensures cause { HasCause (O.faults out.old) (O.faults out.new) result }
+    ensures written { OnOk result (Became
+        (λ folder. with_files (grown_file (97 ∷ 98 ∷ 99 ∷ []) (empty_file path.now true) ∷ [])
+        (with_root root.now folder))
+        (O.seen out.old) (O.seen out.new)) }
+    ensures cause { HasCause (O.seen out.old) (O.seen out.new) result }
 {
     let state = out.root(root)?;
     out.begin(path, true)?;
@@ -45,7 +48,7 @@ fn is_written(file: &MemFile) -> bool {
 }
 
 fn print_twice<S: Sink>(sink: &mut S, line: &[u8]) -> Result<(), Failed>
-    ensures cause { HasCause (S.faults sink.old) (S.faults sink.new) result }
+    ensures cause { HasCause (S.seen sink.old) (S.seen sink.new) result }
 {
     sink.put(line)?;
     sink.put(line)
@@ -71,7 +74,7 @@ fn tree_takes_a_path_once_and_an_identity_with_its_bytes(rt: HostRuntime) -> Res
 }
 
 #[test]
-fn tree_tells_identity_and_length(rt: HostRuntime) -> Result<(), Fail> {
+fn tree_tells_and_reads_what_is_there(rt: HostRuntime) -> Result<(), Fail> {
     let mut tree = MemTree::new(rt.alloc())?;
     let path = Abs::read(rt.alloc(), b"/app/bin/x")?;
     tree.add(&path, &Name::from_bytes(rt.alloc(), b"id")?, b"abcde")?;
@@ -82,29 +85,16 @@ fn tree_tells_identity_and_length(rt: HostRuntime) -> Result<(), Fail> {
         }
         Found::Absent => assert!(rt; false),
     }
-    Ok(())
-}
-
-#[test]
-fn tree_reads_what_is_there(rt: HostRuntime) -> Result<(), Fail> {
-    let mut tree = MemTree::new(rt.alloc())?;
-    let path = Abs::read(rt.alloc(), b"/app/bin/x")?;
-    tree.add(&path, &Name::from_bytes(rt.alloc(), b"id")?, b"abcde")?;
     let mut buf = [0u8; 3];
-    assert_eq!(rt;
-        read_from(rt.alloc(), &mut tree, &path, 1, &mut buf),
-        Ok(Some(3))
-    );
-    assert_eq!(rt; buf, *b"bcd");
-    assert_eq!(rt;
-        read_from(rt.alloc(), &mut tree, &path, 4, &mut buf),
-        Ok(Some(1))
-    );
-    assert_eq!(rt; buf, *b"ecd");
-    assert_eq!(rt;
-        read_from(rt.alloc(), &mut tree, &path, 5, &mut buf),
-        Ok(None)
-    );
+    for (at, count, held) in [
+        (1, Some(3), *b"bcd"),
+        (4, Some(1), *b"ecd"),
+        (5, None, *b"ecd"),
+    ] {
+        let answer = read_from(rt.alloc(), &mut tree, &path, at, &mut buf);
+        assert_eq!(rt; answer, Ok(count), "from {at} on");
+        assert_eq!(rt; buf, held, "from {at} on");
+    }
     Ok(())
 }
 
@@ -129,25 +119,10 @@ fn listed_calls_of_a_tree_fail(rt: HostRuntime) -> Result<(), Fail> {
 }
 
 #[test]
-fn folder_holds_what_was_finished(rt: HostRuntime) -> Result<(), Fail> {
-    let mut out = MemOut::new(rt.alloc())?;
-    let root = Abs::read(rt.alloc(), b"/out")?;
-    let path = Rel::read(rt.alloc(), b"usr/x")?;
-    assert_eq!(rt; write_file(&mut out, &root, &path), Ok(RootState::Empty));
-    assert_eq!(rt; write_file(&mut out, &root, &path), Ok(RootState::NotEmpty));
-    assert_eq!(rt; out.finished().len(), 2);
-    for file in out.finished() {
-        assert!(rt; is_written(file));
-    }
-    assert_eq!(rt; out.refused(), 0);
-    Ok(())
-}
-
-#[test]
 fn listed_calls_of_a_folder_fail_and_take_nothing(rt: HostRuntime) -> Result<(), Fail> {
     let alloc = rt.alloc();
     let root = Abs::read(alloc, b"/out")?;
-    let path = Rel::read(alloc, b"AppRun")?;
+    let path = Rel::read(alloc, b"usr/x")?;
     for (method, call) in [(0, 1), (1, 1), (2, 1), (2, 2), (3, 1)] {
         let mut out = MemOut::new(alloc)?;
         out.fail_at(method, call)?;
@@ -157,8 +132,11 @@ fn listed_calls_of_a_folder_fail_and_take_nothing(rt: HostRuntime) -> Result<(),
             "{method} {call}"
         );
         assert_eq!(rt; out.finished().len(), 0);
-        assert_eq!(rt; out.refused(), 0);
         assert_eq!(rt; write_file(&mut out, &root, &path), Ok(RootState::Empty));
+        assert_eq!(rt; write_file(&mut out, &root, &path), Ok(RootState::NotEmpty));
+        assert_eq!(rt; out.finished().len(), 2);
+        assert!(rt; out.finished().iter().all(|file| is_written(file)));
+        assert_eq!(rt; out.refused(), 0);
     }
     Ok(())
 }
