@@ -1,5 +1,5 @@
 ghost use Rattle.std.specs.Prelude.{◌≡◌, IfOk};
-ghost use Rattle.ports.specs.Faults.{HasCause};
+ghost use Rattle.answers.specs.Faults.{HasCause};
 ghost use Rattle.appdir.specs.Counting.{CountsErrors};
 
 use ports::Failed;

@@ -103,7 +103,7 @@ impl<R: Files + AllocGlobal + Clone + Drop> RealOut<R> {
 impl<R: Files + AllocGlobal + Clone + Drop> OutDir for RealOut<R> {
     ghost use Rattle.std.specs.Prelude.{None};
     ghost use Rattle.std.proofs.Common.{rules};
-    ghost use Rattle.ports.specs.Faults.{HasCause};
+    ghost use Rattle.answers.specs.Faults.{HasCause};
     ghost use Rattle.appdir.specs.Counting.{CountsErrors};
 
     ghost finished = { λ _. None };

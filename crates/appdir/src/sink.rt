@@ -31,7 +31,7 @@ impl<R: Print + Drop> RealSink<R> {
 
 impl<R: Print + Drop> Sink for RealSink<R> {
     ghost use Rattle.std.specs.Prelude.{None};
-    ghost use Rattle.ports.specs.Faults.{HasCause};
+    ghost use Rattle.answers.specs.Faults.{HasCause};
     ghost use Rattle.appdir.specs.Counting.{CountsErrors};
 
     ghost taken = { λ _. None };

@@ -69,7 +69,7 @@ impl<R: Files + AllocGlobal + Drop> RealTree<R> {
 
 impl<R: Files + AllocGlobal + Drop> Tree for RealTree<R> {
     ghost use Rattle.std.specs.Prelude.{None};
-    ghost use Rattle.ports.specs.Faults.{HasCause, Rose};
+    ghost use Rattle.answers.specs.Faults.{HasCause, Rose};
     ghost use Rattle.appdir.specs.Counting.{CountsErrors};
 
     ghost told = { λ _. None };

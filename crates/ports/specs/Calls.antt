@@ -1,7 +1,7 @@
 -- The calls of a form in memory: which are to fail, and how they are counted.
 use Rattle.std.specs.Prelude.{ℕ, Bool, List, [], ◌∷◌, ◌++◌, ◌==◌, ◌&&◌, slice_index, slice_set, if◌then◌else◌}
 use Rattle.std.specs.List.{list_any}
-use Rattle.ports.specs.Faults.{one_more}
+use Rattle.answers.specs.Faults.{one_more}
 use Rattle.ports.specs.declared.calls.Call.{Call}
 use Rattle.ports.specs.declared.calls.Calls.{Calls}
 

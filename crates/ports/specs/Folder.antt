@@ -3,7 +3,7 @@ use Rattle.std.specs.Prelude.{ℕ, Bool, List, [], ◌∷◌, ◌++◌, ◌≡�
 use Rattle.ports.specs.declared.folders.MemFile.{MemFile}
 use Rattle.ports.specs.declared.folders.RootState.{RootState}
 use Rattle.ports.specs.declared.folders.RootState.TheVariants.{Empty, NotEmpty}
-use Rattle.ports.specs.Told.{WhereTold}
+use Rattle.answers.specs.Told.{WhereTold}
 use Rattle.ports.specs.View.{View}
 
 -- the finished files in order, the open file, and the paths of all roots that were opened

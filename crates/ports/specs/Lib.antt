@@ -1,9 +1,7 @@
 pub mod Calls
-pub mod Faults
 pub mod Folder
 pub mod InMemory
 pub mod MemOut
 pub mod MemTree
 pub mod Reading
-pub mod Told
 pub mod View

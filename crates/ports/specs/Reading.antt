@@ -4,7 +4,7 @@ use Rattle.load_model.specs.World.{World, file_at}
 use Rattle.load_model.specs.declared.world.WorldFile.{WorldFile}
 use Rattle.ports.specs.declared.trees.Found.{Found}
 use Rattle.ports.specs.declared.trees.Found.TheVariants.{Absent, File}
-use Rattle.ports.specs.Told.{WhereTold}
+use Rattle.answers.specs.Told.{WhereTold}
 
 abbrev pub found_of : Option WorldFile → Found
 found_of None = Absent

@@ -1,7 +1,7 @@
 -- What an object of the outside tells of itself, and how many faults it has met.
 use Rattle.std.specs.Prelude.{List, ℕ, ◌++◌, ◌≡◌, ◌≤◌, Option, Some, option_map, Result, OnErr}
-use Rattle.ports.specs.Faults.{Rose}
-use Rattle.ports.specs.Told.{WhereTold}
+use Rattle.answers.specs.Faults.{Rose}
+use Rattle.answers.specs.Told.{WhereTold}
 
 -- it tells all or nothing; the count of faults stands still at its last value
 pub record View (A : Type 0) : Type 0 where

@@ -26,7 +26,7 @@ pub trait OutDir {
     ghost use Rattle.std.specs.Prelude.{◌≡◌, ℕ, take, IsSome, IfOk, OnOk, OnErr};
     ghost use Rattle.ports.specs.Folder.{Folder, IsClosed, root_state};
     ghost use Rattle.ports.specs.Folder.{begun, closed, grown, with_root};
-    ghost use Rattle.ports.specs.Told.{WhereTold};
+    ghost use Rattle.answers.specs.Told.{WhereTold};
     ghost use Rattle.ports.specs.View.{Became, HasCause, Stays, View};
 
     // the folder, where it is told, and the faults

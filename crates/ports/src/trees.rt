@@ -25,9 +25,9 @@ pub enum ProbeStop {
 pub trait Tree {
     ghost use Rattle.std.specs.Prelude.{◌≡◌, ◌<◌, ◌≤◌, length, take, drop, IfOk};
     ghost use Rattle.load_model.specs.World.{IsWorld, World};
-    ghost use Rattle.ports.specs.Faults.{Rose};
+    ghost use Rattle.answers.specs.Faults.{Rose};
     ghost use Rattle.ports.specs.Reading.{found_at, bytes_at};
-    ghost use Rattle.ports.specs.Told.{WhereTold};
+    ghost use Rattle.answers.specs.Told.{WhereTold};
     ghost use Rattle.ports.specs.View.{HasCause, OnlyReads, Stays, View};
 
     // the world, where the tree tells it, and the faults
