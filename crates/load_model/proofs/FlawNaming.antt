@@ -18,7 +18,7 @@ use Rattle.load_model.specs.SymbolCount.{count_in, hash_count, reach_count, sect
 use Rattle.load_model.specs.SymbolFlaws.{bad_gnu, bad_symbol_name, bad_sysv, broken_hash, count_by, count_flaw, differing_counts, gnu_in, hash_flaw, list_flaw, no_count, reach_past, symbol_count, symbol_flaw, symbol_flaw_by, symbols_by, sysv_in, unbacked_symbols, wrong_symbol_size}
 use Rattle.load_model.specs.SymbolTable.{symbols_at}
 use Rattle.load_model.specs.VersionFlaws.{bad_next, bad_text, bad_verdaux, bad_verdef, bad_vernaux, bad_verneed, bad_versym, ends_early, goes_on, symbols_version_flaw, verdef_flaw, verdef_flaw_at, verdefs_flaw, vernaux_flaw, vernaux_flaw_at, vernauxs_flaw, verneed_flaw, verneed_flaw_at, verneeds_flaw, version_flaw}
-use Rattle.load_model.specs.VersionFlaws.{symbol_flaw as index_flaw}
+use Rattle.load_model.specs.VersionFlaws.{index_flaw}
 use Rattle.load_model.specs.VersionTables.{vd_next, vda_name, verdaux_of, verdef_count, verdef_place, vernaux_place, verneed_count, verneed_place, vn_cnt, vn_file, vn_next, vna_name, vna_next}
 use Rattle.load_model.specs.declared.symbols.RawSym.{RawSym}
 
