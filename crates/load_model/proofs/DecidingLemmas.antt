@@ -1,8 +1,8 @@
 -- The first candidate that decides, and the paths that are opened up to it.
-use Rattle.std.proofs.Common.{◌≡◌, ◌≢◌, ◌∙◌, sym, ap, refl, ℕ, zero, suc, ◌<◌, List, [], ◌∷◌, Option, Some, None, Result, Ok, Err, map, take, slice_get, arith, subst, ◌⊎◌, inl, inr}
+use Rattle.std.proofs.Common.{◌≡◌, ◌≢◌, ◌∙◌, sym, ap, refl, ℕ, zero, suc, List, [], ◌∷◌, Option, Some, None, Result, map, take, slice_get, arith, subst, ◌⊎◌, inl, inr}
 use Rattle.answers.specs.First.{first_some}
 use Rattle.byte_view.specs.declared.flaws.Flaw.{Flaw}
-use Rattle.load_model.specs.Candidates.{Candidate, At, Refused, IsOpenedFor, IsOpenedIn, candidates, decided_by, decision, first_decision, loader_in, opened_among, opened_by, opened_by_name, opened_for, refused_text}
+use Rattle.load_model.specs.Candidates.{Candidate, At, Refused, IsOpenedIn, candidates, decided_by, decision, first_decision, loader_in, opened_among, opened_by, opened_by_name, opened_for, refused_text}
 use Rattle.load_model.specs.Deciding.{ArePassedOver, IsFirstDeciding, IsPassedOver, IsSearched, IsSearchedIn, IsUpToDeciding}
 use Rattle.load_model.specs.LoadList.{Object, Request, Asked, Loaded, count_after, first_place, is_known}
 use Rattle.load_model.specs.World.{World, Kind, Absent, Other, Object as IsObject, Damaged as IsDamaged, IsPassed, kind_of}
@@ -145,14 +145,16 @@ module _ (read : List ℕ → Result Face Flaw) (setting : Setting) (world : Wor
   unfolding opened_for
   opened_searched objs log r k path h =
       let w = name_cases objs log r (refused_text objs r) (first_place (is_known log r.name) 0 objs) k path h in
-      record { text = w.0; unknown = w.1; up_to = opened_up (candidates setting objs (loader_in log) r) k path w.2 }
+      record { not_refused = w.0; unknown = w.1; reached = opened_up (candidates setting objs (loader_in log) r) k path w.2 }
 
   searched_opened : (objs : List Object) (log : List Asked) (r : Request) (path : List ℕ) → IsSearched read setting world objs log r path → (k : ℕ) × (slice_get (opened_for read setting world objs log r) k ≡ Some path)
   unfolding opened_for
   searched_opened objs log r path w =
-      let at = up_opened (candidates setting objs (loader_in log) r) path w.up_to in
-      (at.0, ap (λ t. slice_get (opened_by_name read setting world objs log r t (first_place (is_known log r.name) 0 objs)) at.0) w.text
-      ∙ ap (λ p. slice_get (opened_by_name read setting world objs log r None p) at.0) w.unknown ∙ at.1)
+      let at = up_opened (candidates setting objs (loader_in log) r) path w.reached in (
+        at.0,
+        ap (λ t. slice_get (opened_by_name read setting world objs log r t (first_place (is_known log r.name) 0 objs)) at.0) w.not_refused
+            ∙ ap (λ p. slice_get (opened_by_name read setting world objs log r None p) at.0) w.unknown ∙ at.1,
+      )
 
   pub run_searched : (program : List ℕ) (run : Loaded) (path : List ℕ) → IsOpenedIn read setting world program run path → (path ≡ program) ⊎ IsSearchedIn read setting world run path
   run_searched program run path (inl w) = inl w

@@ -1,26 +1,19 @@
 -- A list that goes by names is the same in another world that has an object for each name.
-use Rattle.std.proofs.Common.{◌≡◌, ◌≢◌, ◌∙◌, sym, ap, refl, ℕ, zero, suc, ◌+◌, ◌<◌, List, [], ◌∷◌, ◌++◌, Bool, true, false, cond, Option, Some, None, Result, Ok, Err, length, map, take, slice_get, arith, subst, ◌⊎◌, inl, inr, ◌==◌, nat_lt}
-use Rattle.std.specs.Prelude.{All, IsUtf8}
-use Rattle.std.specs.List.{flat_map, list_any}
-use Rattle.std.specs.Option.{unwrap_or}
-use Rattle.std.specs.Str.{bytes_eq, is_utf8}
-use Rattle.std.proofs.lemmas.Bool.{cases_Bool, ne_eqb}
-use Rattle.std.proofs.lemmas.List.{append-nil, length-map, take_all}
-use Rattle.std.proofs.lemmas.List.Elements.{All-head, All-tail}
+use Rattle.std.proofs.Common.{◌≡◌, ◌∙◌, sym, ap, refl, ℕ, zero, suc, ◌<◌, List, [], ◌∷◌, Bool, true, false, cond, Option, Some, None, Result, Ok, Err, length, map, take, slice_get, arith, subst, ◌⊎◌, inl, inr, nat_lt}
+use Rattle.std.specs.Prelude.{All}
+use Rattle.std.specs.Str.{bytes_eq}
+use Rattle.std.proofs.lemmas.List.{length-map, take_all}
 use Rattle.std.proofs.lemmas.Option.{slice_get_within}
-use Rattle.std.proofs.lemmas.Str.{IsUtf8-from_is_utf8}
 use Rattle.byte_view.specs.declared.flaws.Flaw.{Flaw}
-use Rattle.path_text.specs.FileName.{IsFileName, IsNameByte}
-use Rattle.path_text.specs.Path.{IsNormalPath, begins_at_root, path_of}
-use Rattle.path_text.proofs.PathLemmas.{not_utf8}
-use Rattle.load_model.specs.Candidates.{Candidate, At, Refused, IsOpenedIn, asker_path, candidate_at, candidate_in, candidates, chain, chain_items, decided_by, decision, first_decision, first_found, found_or, has_dollar, is_relative, items_by, listed_candidates, listed_items, loader_in, own_items, path_search, refused_text, rpath_by, rpath_items, search_items}
-use Rattle.load_model.specs.Deciding.{IsFirstDeciding, IsSearchedIn, IsUpToDeciding}
+use Rattle.path_text.specs.FileName.{IsFileName}
+use Rattle.path_text.specs.Path.{IsNormalPath}
+use Rattle.load_model.specs.Candidates.{Candidate, At, IsOpenedIn, asker_path, decided_by, decision, first_found, found_or, listed_candidates, loader_in, path_search, refused_text}
+use Rattle.load_model.specs.Deciding.{IsUpToDeciding}
 use Rattle.load_model.specs.Joined.{joined}
-use Rattle.load_model.specs.LoadList.{Object, Request, Asked, Found, Known, Brought, Loaded, count_after, IsAnswered, IsPart, IsPhase, IsRun, IsEndedRun, Search, by_id, by_limit, by_name, by_search, first_place, is_known, target_of, GoesByKey, IsAlike, AreAlike}
+use Rattle.load_model.specs.LoadList.{Object, Request, Asked, Found, Brought, Loaded, count_after, IsAnswered, IsPhase, IsRun, IsEndedRun, Search, by_id, by_name, by_search, first_place, is_known, target_of, AreAlike}
 use Rattle.load_model.specs.Loads.{IsLoadList, answer_unless, goes_to, program_at, program_by}
-use Rattle.load_model.specs.RunPaths.{Item, Folder}
-use Rattle.load_model.specs.SameNames.{GoesToListed, HasNoRunPath, HasObject, IsByNames, IsCarried, IsCopyOrAskedFor, IsListedUpTo, LoadsAlike, copied, found_instead, key_of, listed_decision, loaded_there, object_there, objects_there}
-use Rattle.load_model.specs.World.{World, Kind, Absent, Other, Object as IsObject, Damaged as IsDamaged, IsPassed, file_at, is_other, kind_of, kind_of_file, kind_of_read}
+use Rattle.load_model.specs.SameNames.{HasNoRunPath, HasObject, IsByNames, IsCarried, IsCopyOrAskedFor, IsListedUpTo, LoadsAlike, copied, found_instead, key_of, listed_decision, loaded_there, object_there, objects_there}
+use Rattle.load_model.specs.World.{World, Kind, Absent, Other, Object as IsObject, Damaged as IsDamaged, file_at, is_other, kind_of, kind_of_file, kind_of_read}
 use Rattle.load_model.specs.declared.faces.Face.{Face}
 use Rattle.load_model.specs.declared.limits.TheConstants.{MOST_OBJECTS}
 use Rattle.load_model.specs.declared.refusals.LoadRefusal.{LoadRefusal}
@@ -28,87 +21,11 @@ use Rattle.load_model.specs.declared.refusals.LoadRefusal.TheVariants.{MissingLi
 use Rattle.load_model.specs.declared.setting.Setting.{Setting}
 use Rattle.load_model.specs.declared.world.WorldFile.{WorldFile}
 use Rattle.load_model.proofs.DecidingLemmas.{first_decides, run_searched}
-use Rattle.load_model.proofs.Joined.{not_joined}
-use Rattle.load_model.proofs.JoinedLemmas.{joined_is, same_dir}
+use Rattle.load_model.proofs.JoinedLemmas.{same_dir}
 use Rattle.load_model.proofs.OneRun.{there}
-use Rattle.load_model.proofs.Places.{any_place, slice_get-take}
+use Rattle.load_model.proofs.Places.{slice_get-take}
 use Rattle.load_model.proofs.TwoWorlds.{brought_by, same_bytes, same_run}
-
--- ---- names and candidates
-
-all_at : {A : Type 0} (P : A → Type 0) (xs : List A) (i : ℕ) (x : A) → All P xs → slice_get xs i ≡ Some x → P x
-all_at P [] i x p h = cc
-all_at P (y ∷ ys) zero x p h = let e : y ≡ x = cc in subst P e (All-head P y ys p)
-all_at P (y ∷ ys) (suc i) x p h = all_at P ys i x (All-tail P y ys p) h
-
-mapped_at : {A B : Type 0} (f : A → B) (xs : List A) (k : ℕ) (y : B) → slice_get (map f xs) k ≡ Some y → (x : A) × (slice_get xs k ≡ Some x) × (y ≡ f x)
-mapped_at f [] k y h = cc
-mapped_at f (x ∷ xs) zero y h = (x, refl, let e : f x ≡ y = cc in sym e)
-mapped_at f (x ∷ xs) (suc k) y h = mapped_at f xs k y h
-
-at_mapped : {A B : Type 0} (f : A → B) (xs : List A) (k : ℕ) (x : A) → slice_get xs k ≡ Some x → slice_get (map f xs) k ≡ Some (f x)
-at_mapped f [] k x h = cc
-at_mapped f (y ∷ ys) zero x h = let e : y ≡ x = cc in ap (λ z. Some (f z)) e
-at_mapped f (y ∷ ys) (suc k) x h = at_mapped f ys k x h
-
-flat_nil : {A B : Type 0} (f : A → List B) (xs : List A) → ((x : A) → f x ≡ []) → flat_map f xs ≡ []
-flat_nil f [] h = refl
-flat_nil f (x ∷ xs) h = ap (λ ys. ys ++ flat_map f xs) (h x) ∙ flat_nil f xs h
-
-not_rooted : (name : List ℕ) → IsFileName name → begins_at_root name ≡ false
-not_rooted [] h = refl
-not_rooted (c ∷ name) h = let b : IsNameByte c = All-head IsNameByte c name h.bytes in ne_eqb c 47 b.0
-
-none_any : (p : ℕ → Bool) (xs : List ℕ) → ((i : ℕ) (x : ℕ) → slice_get xs i ≡ Some x → p x ≡ false) → list_any p xs ≡ false
-none_any p [] h = refl
-none_any p (x ∷ xs) h = rw (h 0 x refl) (none_any p xs (λ i y g. h (suc i) y g))
-
-no_byte : (name : List ℕ) (b : ℕ) → ((c : ℕ) → IsNameByte c → c ≢ b) → IsFileName name → list_any (λ c. c == b) name ≡ false
-no_byte name b other h = none_any (λ c. c == b) name (λ i c g. ne_eqb c b (other c (all_at IsNameByte name i c h.bytes g)))
-
--- a file name is neither refused by its text nor a path
-plain_text : (objs : List Object) (r : Request) → IsFileName r.name → refused_text objs r ≡ None
-unfolding refused_text
-plain_text objs r h = rw (no_byte r.name 36 (λ c b. b.1) h, not_rooted r.name h, no_byte r.name 47 (λ c b. b.0) h) refl
-
-module _ (setting : Setting) where
-  -- without run paths there are no items but those of the listed directories
-  no_rpath : (o : Option Object) → ((x : Object) → o ≡ Some x → HasNoRunPath x) → rpath_items setting o ≡ []
-  no_rpath None h = refl
-  no_rpath (Some o) h = let w = h o refl in rw (w.runpath, w.rpath) refl
-
-  no_own : (objs : List Object) (loader : ℕ → ℕ) (j : ℕ) (o : Option Object) → ((k : ℕ) (x : Object) → slice_get objs k ≡ Some x → HasNoRunPath x) → ((x : Object) → o ≡ Some x → HasNoRunPath x) → own_items setting objs loader j o ≡ []
-  no_own objs loader j None all h = refl
-  no_own objs loader j (Some o) all h =
-      ap (items_by setting objs loader j o) (h o refl).runpath
-      ∙ flat_nil (λ k. rpath_items setting (slice_get objs k)) (chain (length objs) loader j) (λ k. no_rpath (slice_get objs k) (λ x g. all k x g))
-
-  pub only_listed : (objs : List Object) (loader : ℕ → ℕ) (r : Request) → ((k : ℕ) (x : Object) → slice_get objs k ≡ Some x → HasNoRunPath x) → IsFileName r.name → candidates setting objs loader r ≡ listed_candidates setting r.name
-  unfolding candidates search_items listed_candidates
-  only_listed objs loader r all h =
-      ap (λ b. cond b (candidate_at (path_of r.name)) (flat_map (candidate_in r.name) (own_items setting objs loader r.by (slice_get objs r.by) ++ listed_items setting))) (not_rooted r.name h)
-      ∙ ap (λ is. flat_map (candidate_in r.name) (is ++ listed_items setting)) (no_own objs loader r.by (slice_get objs r.by) all (λ x g. all r.by x g))
-
-listed_at : (dirs : List (List ℕ)) (name : List ℕ) → All IsNormalPath dirs → IsFileName name → IsUtf8 name → flat_map (candidate_in name) (map (λ dir. Folder dir) dirs) ≡ map (λ dir. At (joined dir name)) dirs
-listed_at [] name d h utf8 = refl
-listed_at (dir ∷ dirs) name d h utf8 =
-    ap (λ p. candidate_at p ++ flat_map (candidate_in name) (map (λ dir. Folder dir) dirs)) (joined_is dir name (All-head IsNormalPath dir dirs d) h utf8)
-    ∙ ap (λ cs. At (joined dir name) ∷ cs) (listed_at dirs name (All-tail IsNormalPath dir dirs d) h utf8)
-
-listed_none : (dirs : List (List ℕ)) (name : List ℕ) → All IsNormalPath dirs → IsFileName name → (IsUtf8 name → ⊥) → flat_map (candidate_in name) (map (λ dir. Folder dir) dirs) ≡ []
-listed_none [] name d h odd = refl
-listed_none (dir ∷ dirs) name d h odd =
-    ap (λ p. candidate_at p ++ flat_map (candidate_in name) (map (λ dir. Folder dir) dirs)) (not_joined dir name (All-head IsNormalPath dir dirs d) h odd)
-    ∙ listed_none dirs name (All-tail IsNormalPath dir dirs d) h odd
-
--- the candidates of a name in the listed directories, or none where the name is no text
-pub listed_cases : (setting : Setting) (name : List ℕ) → All IsNormalPath setting.dirs → IsFileName name → (listed_candidates setting name ≡ map (λ dir. At (joined dir name)) setting.dirs) ⊎ (listed_candidates setting name ≡ [])
-unfolding listed_candidates
-listed_cases setting name d h =
-    elim (cases_Bool (is_utf8 name)) [
-      | inl t ↦ inl (listed_at setting.dirs name d h (IsUtf8-from_is_utf8 name t))
-      | inr f ↦ inr (listed_none setting.dirs name d h (not_utf8 name f))
-    ]
+use Rattle.load_model.proofs.ListedLemmas.{all_at, at_mapped, listed_cases, mapped_at, only_listed, plain_text}
 
 -- ---- answers and phases
 
@@ -286,11 +203,11 @@ module _ (read : List ℕ → Result Face Flaw) (setting : Setting) (world : Wor
   -- no name finds the copy
   not_copy : (n : List ℕ) (q : Object) → IsFileName n → listed_decision read setting world n ≡ Some (Ok q) → q.id ≡ copy.id → ⊥
   not_copy n q h found same =
-      let at = found_in read setting world n q carried.dirs h found in
+      let at = found_in read setting world n q carried.dirs_normal h found in
       let file = find_at (joined at.dir n) world at.file at.lies in
       let paths : joined at.dir n ≡ joined place name = sym file.2 ∙ carried.own file.0 at.file file.1 (sym at.same ∙ same) ∙ copy_path in
       carried.apart at.number at.dir at.listed
-      (same_dir at.dir place n name (all_at IsNormalPath setting.dirs at.number at.dir carried.dirs at.listed) carried.place_normal h carried.named paths)
+      (same_dir at.dir place n name (all_at IsNormalPath setting.dirs at.number at.dir carried.dirs_normal at.listed) carried.place_normal h carried.name_is paths)
 
   abbrev mine : List Object → List Object
   mine os = objects_there read setting world copy os
@@ -395,7 +312,7 @@ module _ (read : List ℕ → Result Face Flaw) (setting : Setting) (world : Wor
               let n : ℕ = count_after (take w.number log) in
               let plain_name = names w.number w.asked w.stands in
               let same = only_listed setting (take n (mine objs)) (loader_in (take w.number log)) r (front_bare n) plain_name in
-              inr (w.number, w.asked, w.stands, listed_up_to read setting world r.name path carried.dirs plain_name (subst (λ (cs : List Candidate). IsUpToDeciding read setting world cs path) same w.searched.up_to))
+              inr (w.number, w.asked, w.stands, listed_up_to read setting world r.name path carried.dirs_normal plain_name (subst (λ (cs : List Candidate). IsUpToDeciding read setting world cs path) same w.searched.reached))
         ]
 
 module _ (read : List ℕ → Result Face Flaw) (setting setting_there : Setting) (here there : World) (path : List ℕ) (loaded : Loaded) (ends : List Loaded) (start : WorldFile) (place name : List ℕ) (copy : WorldFile) (list : IsLoadList read setting here path [] loaded ends) (by_names : IsByNames loaded) (starts : file_at here path ≡ Some start) (machine : setting_there.machine ≡ setting.machine) (carried : IsCarried read setting_there there start loaded.objs place name copy) where

@@ -1,5 +1,5 @@
 -- A text of ASCII bytes is UTF-8, by a test that computes.
-use Rattle.std.proofs.Common.{refl, ◌≡◌, ◌∷◌, [], ℕ, zero, suc, List, true, ◌<◌, nat_lt, arith}
+use Rattle.std.proofs.Common.{◌≡◌, ◌∷◌, [], ℕ, zero, suc, List, true, ◌<◌, nat_lt, arith}
 use Rattle.std.specs.List.{list_all, slice_index}
 use Rattle.std.specs.Str.{is_utf8}
 use Rattle.std.proofs.lemmas.Bool.{and_parts, ltb-true}

@@ -1,5 +1,5 @@
 -- Which candidate of a search decides, and which paths the search opens up to it.
-use Rattle.std.specs.Prelude.{ℕ, List, ◌≡◌, ◌≢◌, ◌<◌, Option, Some, None, Result, slice_get, take}
+use Rattle.std.specs.Prelude.{ℕ, List, ◌≡◌, ◌≢◌, ◌<◌, Some, None, Result, slice_get, take}
 use Rattle.byte_view.specs.declared.flaws.Flaw.{Flaw}
 use Rattle.load_model.specs.Candidates.{Candidate, At, Refused, candidates, decision, loader_in, refused_text}
 use Rattle.load_model.specs.LoadList.{Object, Request, Asked, Loaded, count_after, first_place, is_known}
@@ -35,9 +35,9 @@ module _ (read : List ℕ → Result Face Flaw) (setting : Setting) (world : Wor
 
   -- The request is searched for, and its search opens the path.
   pub record IsSearched (objs : List Object) (log : List Asked) (r : Request) (path : List ℕ) : Type 0 where
-    pub text : refused_text objs r ≡ None
+    pub not_refused : refused_text objs r ≡ None
     pub unknown : first_place (is_known log r.name) 0 objs ≡ None
-    pub up_to : IsUpToDeciding (candidates setting objs (loader_in log) r) path
+    pub reached : IsUpToDeciding (candidates setting objs (loader_in log) r) path
 
   -- So does the request of this number, when so much is loaded and asked as was before it.
   pub record IsSearchedIn (run : Loaded) (path : List ℕ) : Type 0 where

@@ -9,5 +9,5 @@ with_lib = record { machine = EM_X86_64; dirs = []; lib = Some (codes "lib64"); 
 abbrev pub with_platform : Setting
 with_platform = record { machine = EM_X86_64; dirs = []; lib = None; platform = Some (codes "haswell") }
 
-abbrev pub folder : List ℕ
-folder = codes "/opt/app/bin"
+abbrev pub app_folder : List ℕ
+app_folder = codes "/opt/app/bin"

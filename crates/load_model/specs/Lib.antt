@@ -28,3 +28,4 @@ pub mod SameNames
 pub mod Expansions
 pub mod Diamond
 pub mod SmallHost
+pub mod Chains

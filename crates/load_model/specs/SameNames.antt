@@ -46,7 +46,7 @@ found_instead o (Some (Err refusal)) = o
 found_instead o (Some (Ok there)) = there
 
 module _ (read : List ℕ → Result Face Flaw) (setting : Setting) (world : World) where
-  -- What the listed directories of a setting have for a name: what the first of its files decides that decides.
+  -- What the listed directories of a setting have for a name: what the first candidate decides that decides.
   abbrev pub listed_decision : List ℕ → Option (Result Object LoadRefusal)
   listed_decision name = first_decision read setting world (listed_candidates setting name)
 
@@ -78,9 +78,9 @@ module _ (read : List ℕ → Result Face Flaw) (setting : Setting) (world : Wor
   -- object from here. What else lies in the place is not spoken of: no search looks there.
   pub record IsCarried (start : WorldFile) (objs : List Object) (place name : List ℕ) (copy : WorldFile) : Type 0 where
     -- a directory joined with a name tells which directory it was
-    pub dirs : All IsNormalPath setting.dirs
+    pub dirs_normal : All IsNormalPath setting.dirs
     pub place_normal : IsNormalPath place
-    pub named : IsFileName name
+    pub name_is : IsFileName name
     -- the copy has the bytes of the program, so it starts and needs the same
     pub lies : file_at world (joined place name) ≡ Some copy
     pub bytes : copy.bytes ≡ start.bytes
@@ -90,7 +90,10 @@ module _ (read : List ℕ → Result Face Flaw) (setting : Setting) (world : Wor
     -- each other object has one there
     pub files : (j : ℕ) (o : Object) → 0 < j → slice_get objs j ≡ Some o → HasObject o
     -- and no two of these are one file
-    pub ids : (i j : ℕ) (x y : Object) (p q : Object) → 0 < i → 0 < j → slice_get objs i ≡ Some x → slice_get objs j ≡ Some y → listed_decision (key_of x) ≡ Some (Ok p) → listed_decision (key_of y) ≡ Some (Ok q) → p.id ≡ q.id → i ≡ j
+    pub ids :
+        (i j : ℕ) (x y : Object) (p q : Object) → 0 < i → 0 < j → slice_get objs i ≡ Some x → slice_get objs j ≡ Some y
+        → listed_decision (key_of x) ≡ Some (Ok p) → listed_decision (key_of y) ≡ Some (Ok q)
+        → p.id ≡ q.id → i ≡ j
 
   -- The request went to what the listed directories have for its name.
   pub record GoesToListed (run : Loaded) (asked : Asked) : Type 0 where

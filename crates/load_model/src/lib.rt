@@ -36,7 +36,11 @@ pub use opening::{OpenFault, Opened, Opener};
 pub use path_text::NoMemory;
 pub use refusals::LoadRefusal;
 pub use runs::{Bind, Def, Obj, Piece, Replay, Run};
-pub use search_laws::{diamond_loads_breadth_first, first_candidate_decides, items_are_expanded, joined_is_path, same_names_load_alike, search_opens_up_to_deciding, small_host_loads_alike};
+pub use search_laws::{
+    diamond_loads_breadth_first, first_candidate_decides, items_are_expanded, joined_is_path,
+    run_paths_along_the_chain, same_names_load_alike, search_opens_up_to_deciding,
+    small_host_loads_alike,
+};
 pub use setting::Setting;
 pub use symbols::{Class, RawSym, Sym, Ver};
 pub use world::WorldFile;
