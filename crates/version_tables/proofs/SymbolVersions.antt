@@ -10,7 +10,7 @@ use Rattle.byte_view.specs.DynamicFlaws.{has_bit}
 use Rattle.byte_view.specs.declared.constants.TheConstants.{DT_VERSYM, VER_NDX_GLOBAL, VERSYM_HIDDEN, VERSYM_VERSION}
 use Rattle.byte_view.specs.declared.flaws.Flaw.{Flaw}
 use Rattle.byte_view.specs.declared.flaws.TheConstants.{UNKNOWN_INDEX}
-use Rattle.load_model.specs.VersionFlaws.{symbol_flaw, symbols_version_flaw, unknown_index}
+use Rattle.load_model.specs.VersionFlaws.{index_flaw, symbols_version_flaw, unknown_index}
 use Rattle.load_model.specs.VersionTables.{dynamic_value, hidden_of, index_in, indexed_names, is_hidden, is_versioned, place_by, version_by, version_of, versions_of, versym_word}
 use Rattle.version_tables.specs.Indexes.{AreFirst, index_count, index_count_by, symbol_word, unknown_at, unknown_word, version_in}
 use Rattle.version_tables.specs.Walks.{from_on}
@@ -55,8 +55,8 @@ unknown_cases file places (Some at) symbol w f =
     ap (λ (p : Option ℕ). some_where (nat_lt VER_NDX_GLOBAL (index_in w) && not (is_some p)) (flaw UNKNOWN_INDEX symbol (index_in w))) (f.each (index_in w) (index_small w))
 unknown_cases file places None symbol w f = refl
 
-unknown_same : (file words : List ℕ) (places : List (Option ℕ)) (count i : ℕ) → words ≡ map (symbol_word file) (range_with_len 0 count) → AreFirst (index_count file) places (indexed_names file) → i < count → unknown_at places words i ≡ symbol_flaw file i
-unfolding unknown_at symbol_flaw
+unknown_same : (file words : List ℕ) (places : List (Option ℕ)) (count i : ℕ) → words ≡ map (symbol_word file) (range_with_len 0 count) → AreFirst (index_count file) places (indexed_names file) → i < count → unknown_at places words i ≡ index_flaw file i
+unfolding unknown_at index_flaw
 unknown_same file words places count i e f h =
     let word : get_or words i 0 ≡ symbol_word file i = ap (λ (l : List ℕ). get_or l i 0) e ∙ get_or-map-range_with_len (symbol_word file) 0 count i i 0 h (omega arith) in
     ap (λ (w : ℕ). unknown_word places i w) word ∙ unknown_cases file places (dynamic_value file DT_VERSYM) i (versym_word file i) f
@@ -66,5 +66,5 @@ unfolding symbols_version_flaw
 symbols_checked file words places count e f =
     let many : length words ≡ count = ap length e ∙ length-map-range_with_len (symbol_word file) 0 count in
     let all : from_on (unknown_at places words) 0 (length words) ≡ map (unknown_at places words) (range_with_len 0 count) = from_on_all (unknown_at places words) (length words) ∙ ap (λ (n : ℕ). map (unknown_at places words) (range_with_len 0 n)) many in
-    let same : map (unknown_at places words) (range_with_len 0 count) ≡ map (symbol_flaw file) (range_with_len 0 count) = same_from (unknown_at places words) (symbol_flaw file) 0 count (λ i l h. unknown_same file words places count i e f (omega arith)) in
+    let same : map (unknown_at places words) (range_with_len 0 count) ≡ map (index_flaw file) (range_with_len 0 count) = same_from (unknown_at places words) (index_flaw file) 0 count (λ i l h. unknown_same file words places count i e f (omega arith)) in
     ap first_some (all ∙ same)

@@ -8,7 +8,7 @@ ghost use Rattle.byte_view.specs.Sound.{IsReadFrom};
 ghost use Rattle.byte_view.specs.declared.constants.TheConstants.{DT_VERDEF, DT_VERDEFNUM, HIGHEST_END};
 ghost use Rattle.dyn_table.specs.Table.{IsTableOf};
 ghost use Rattle.load_model.specs.VersionFlaws.{bad_verdaux, bad_verdef, verdef_flaw_at, verdefs_flaw};
-ghost use Rattle.load_model.specs.VersionTables.{count_by, verdef_count};
+ghost use Rattle.load_model.specs.VersionTables.{record_count, verdef_count};
 ghost use Rattle.version_tables.specs.Faults.{version_fault_flaw};
 ghost use Rattle.version_tables.specs.Records.{definition_at, verdaux_words, verdef_words};
 ghost use Rattle.version_tables.specs.Walks.{definition_of, from_on};
@@ -16,7 +16,7 @@ ghost use Rattle.version_tables.specs.Walks.{definition_of, from_on};
 use crate::chains::check_next;
 use crate::faults::{VersionFault, flawed};
 use crate::records::{Verdaux, Verdef, verdaux_at, verdef_at};
-use crate::tables::{check_text, count_by};
+use crate::tables::{check_text, record_count};
 use byte_view::Entry;
 use byte_view::constants::{DT_VERDEF, DT_VERDEFNUM, VER_CURRENT, VERSYM_VERSION};
 use byte_view::flaws::VERSION_RANGE;
@@ -103,9 +103,9 @@ fn definition_at(
 
 /// How many definitions there are, by the dynamic table.
 fn definition_count(entries: &[Entry]) -> u64
-    ensures { result ≡ count_by (value_of DT_VERDEF entries.now) (value_of DT_VERDEFNUM entries.now) }
+    ensures { result ≡ record_count (value_of DT_VERDEF entries.now) (value_of DT_VERDEFNUM entries.now) }
 {
-    count_by(
+    record_count(
         value_of(DT_VERDEF, entries),
         value_of(DT_VERDEFNUM, entries),
     )

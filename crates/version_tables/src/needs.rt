@@ -9,7 +9,7 @@ ghost use Rattle.byte_view.specs.Sound.{IsReadFrom};
 ghost use Rattle.byte_view.specs.declared.constants.TheConstants.{DT_VERNEED, DT_VERNEEDNUM, HIGHEST_END};
 ghost use Rattle.dyn_table.specs.Table.{IsTableOf};
 ghost use Rattle.load_model.specs.VersionFlaws.{bad_text, bad_verneed, verneed_flaw_at, verneeds_flaw};
-ghost use Rattle.load_model.specs.VersionTables.{count_by, verneed_count, vn_file};
+ghost use Rattle.load_model.specs.VersionTables.{record_count, verneed_count, vn_file};
 ghost use Rattle.version_tables.specs.Faults.{version_fault_flaw};
 ghost use Rattle.version_tables.specs.Records.{verneed_words};
 ghost use Rattle.version_tables.specs.Walks.{asked_of_record, asked_of_need, file_word_of, from_on, lists_from};
@@ -18,7 +18,7 @@ use crate::asked::{Asked, read_asked};
 use crate::chains::check_next;
 use crate::faults::{VersionFault, flawed};
 use crate::records::{Verneed, verneed_at};
-use crate::tables::{check_text, count_by};
+use crate::tables::{check_text, record_count};
 use byte_view::Entry;
 use byte_view::constants::{DT_VERNEED, DT_VERNEEDNUM, VER_CURRENT};
 use byte_view::flaws::VERSION_RANGE;
@@ -88,9 +88,9 @@ fn read_need(
 
 /// How many needs there are, by the dynamic table.
 fn need_count(entries: &[Entry]) -> u64
-    ensures { result ≡ count_by (value_of DT_VERNEED entries.now) (value_of DT_VERNEEDNUM entries.now) }
+    ensures { result ≡ record_count (value_of DT_VERNEED entries.now) (value_of DT_VERNEEDNUM entries.now) }
 {
-    count_by(
+    record_count(
         value_of(DT_VERNEED, entries),
         value_of(DT_VERNEEDNUM, entries),
     )

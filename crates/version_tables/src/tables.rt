@@ -7,7 +7,7 @@ ghost use Rattle.answers.specs.First.{some_where};
 ghost use Rattle.byte_view.specs.Checks.{flaw};
 ghost use Rattle.byte_view.specs.Dynamic.{string_at};
 ghost use Rattle.dyn_table.specs.Table.{IsTableOf};
-ghost use Rattle.load_model.specs.VersionTables.{count_by, text_of};
+ghost use Rattle.load_model.specs.VersionTables.{record_count, text_of};
 ghost use Rattle.version_tables.specs.Faults.{version_fault_flaw};
 
 use crate::faults::{VersionFault, flawed};
@@ -15,8 +15,8 @@ use byte_view::flaws::STRING_PLACE;
 use dyn_table::Dyn;
 
 /// How many records a table has, of which the dynamic table says where it is and how many they are.
-pub(crate) fn count_by(table: Option<u64>, said: Option<u64>) -> u64
-    ensures { result ≡ count_by table said }
+pub(crate) fn record_count(table: Option<u64>, said: Option<u64>) -> u64
+    ensures { result ≡ record_count table said }
 {
     if table.is_some() {
         said.unwrap_or(0)
