@@ -1,3 +1,7 @@
+//! What an object asks of other files.
+//!
+//! Linux Standard Base, Symbol Versioning. Read as `specs/VersionTables.antt` says.
+
 ghost use Rattle.std.specs.Prelude.{◌≡◌, IfOk};
 
 use crate::Name;
@@ -9,7 +13,7 @@ use std::alloc::Global;
 pub struct Ask {
     pub file: Name,
     pub name: Name,
-    /// May the version be missing?
+    /// Whether the version may be missing.
     pub weak: bool,
 }
 

@@ -1,3 +1,5 @@
+//! Names as files have them, and texts.
+
 ghost use Rattle.std.specs.Prelude.{◌≡◌, IfOk};
 
 use path_text::NoMemory;

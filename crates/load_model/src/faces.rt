@@ -1,3 +1,5 @@
+//! What a loader sees of a file, as `specs/Faces.antt` says.
+
 use crate::{Ask, List, Name, Sym};
 
 /// What a loader sees of a file.
@@ -11,11 +13,11 @@ pub struct Face {
     pub needs: List<Name>,
     pub rpath: Option<Name>,
     pub runpath: Option<Name>,
-    /// Are its references looked up in itself first?
+    /// Whether its references are looked up in itself first.
     pub symbolic: bool,
     /// Its symbols by index.
     pub syms: List<Sym>,
-    /// Does it have a table of version indexes?
+    /// Whether it has a table of version indexes.
     pub versioned: bool,
     /// The names of its version definitions, in order.
     pub defs: List<Name>,

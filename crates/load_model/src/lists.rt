@@ -1,3 +1,5 @@
+//! Lists that are passed on whole.
+
 ghost use Rattle.std.specs.Prelude.{◌≡◌, [], ◌∷◌, ◌++◌, IfOk, OnErr, OnOk};
 
 use crate::Name;

@@ -21,7 +21,8 @@ pub trait Offers {
     // the symbols, and whether there is a table of version indexes
     ghost offered: { Self → Offered };
 
-    /// The index of the symbol that a reference by this name, with or without a version, binds to here.
+    /// The index of the symbol that a reference by this name, with or without a version, binds to
+    /// here.
     ///
     /// It is the least index of those that the rule in `docs/LOADER.md` accepts. Takes no memory.
     fn offer(&self, name: &[u8], version: Option<&[u8]>, class: Class) -> Option<u32>
@@ -61,7 +62,8 @@ fn first_accepted(
     version: Option<&[u8]>,
     class: Class,
 ) -> Option<usize>
-    ensures place { result ≡ position_from (is_accepted syms.now name.now class versioned (option_copied version.entry)) 0 syms.now }
+    ensures place { result ≡ position_from
+        (is_accepted syms.now name.now class versioned (option_copied version.entry)) 0 syms.now }
     ensures bound { IfSome result (λ i. i < length syms.now) }
 {
     if !versioned {
@@ -83,7 +85,8 @@ fn first_candidate(syms: &[Sym], name: &[u8], class: Class) -> Option<usize>
 
 /// The place of the first candidate that a reference with this version accepts.
 fn first_of_version(syms: &[Sym], name: &[u8], wanted: &[u8], class: Class) -> Option<usize>
-    ensures place { result ≡ position_from (λ s. is_candidate name.now class s && has_wanted_version wanted.now s) 0 syms.now }
+    ensures place { result ≡ position_from
+        (λ s. is_candidate name.now class s && has_wanted_version wanted.now s) 0 syms.now }
     ensures bound { IfSome result (λ i. i < length syms.now) }
 {
     syms.iter().position(|s| is_candidate(s, name, class) && has_wanted_version(s, wanted))
@@ -92,7 +95,8 @@ fn first_of_version(syms: &[Sym], name: &[u8], wanted: &[u8], class: Class) -> O
 /// The place of the first candidate that a reference without a version accepts.
 #[tactic(auto, using(crate::proofs::Selected::early_first, crate::proofs::Selected::one_shown, crate::proofs::Selected::none_shown))]
 fn first_without_version(syms: &[Sym], name: &[u8], class: Class) -> Option<usize>
-    ensures place { result ≡ position_from (is_accepted syms.now name.now class true None) 0 syms.now }
+    ensures place { result ≡ position_from
+        (is_accepted syms.now name.now class true None) 0 syms.now }
     ensures bound { IfSome result (λ i. i < length syms.now) }
 {
     if let Some(early) = first_early(syms, name, class) {
@@ -128,28 +132,28 @@ fn count_shown(syms: &[Sym], name: &[u8], class: Class) -> usize
     syms.iter().filter(|s| is_shown(s, name, class)).count()
 }
 
-/// Is it a candidate that is not hidden?
+/// Whether it is a candidate that is not hidden.
 fn is_shown(s: &Sym, name: &[u8], class: Class) -> bool
     ensures { result ≡ is_shown name.now class s.now }
 {
     is_candidate(s, name, class) && !s.hidden
 }
 
-/// Is it an offerable symbol of this name, with a version index other than 0?
+/// Whether it is an open symbol of this name, with a version index other than 0.
 fn is_candidate(s: &Sym, name: &[u8], class: Class) -> bool
     ensures { result ≡ is_candidate name.now class s.now }
 {
     is_open_to(s, class) && s.name.as_bytes() == name && !is_local(&s.version)
 }
 
-/// May other objects bind to it, with a reference of this class?
+/// Whether it is open to references of this class.
 fn is_open_to(s: &Sym, class: Class) -> bool
     ensures { result ≡ is_open_to class s.now }
 {
     may_bind(s) && suits(class, s.defined)
 }
 
-/// May a reference of this class go to such a symbol?
+/// Whether a reference of this class may go to such a symbol.
 fn suits(class: Class, defined: bool) -> bool
     ensures { result ≡ suits class defined }
 {
@@ -159,14 +163,14 @@ fn suits(class: Class, defined: bool) -> bool
     }
 }
 
-/// May other objects bind to it?
+/// Whether other objects may bind to it.
 fn may_bind(s: &Sym) -> bool
     ensures { result ≡ is_bindable s.now.binding s.now.kind s.now.visibility s.now.value_set }
 {
     is_bindable(s.binding, s.kind, s.visibility, s.value_set)
 }
 
-/// May other objects bind to a symbol of this binding, type and visibility?
+/// Whether other objects may bind to a symbol of this binding, type and visibility.
 ///
 /// `value_set` says whether it has a value that a reference can bind to.
 #[tactic(auto, unfolding(crate::specs::SymbolWords::is_bindable))]
@@ -176,14 +180,14 @@ pub fn is_bindable(binding: u8, kind: u8, visibility: u8, value_set: bool) -> bo
     is_shared(binding) && is_found_by_name(kind) && is_visible(visibility) && value_set
 }
 
-/// Do other objects see symbols of this binding?
+/// Whether other objects see symbols of this binding.
 fn is_shared(binding: u8) -> bool
     ensures { result ≡ is_shared binding }
 {
     matches!(binding, STB_GLOBAL | STB_WEAK | STB_GNU_UNIQUE)
 }
 
-/// Are symbols of this type found by name?
+/// Whether symbols of this type are found by name.
 fn is_found_by_name(kind: u8) -> bool
     ensures { result ≡ is_found_by_name kind }
 {
@@ -193,14 +197,14 @@ fn is_found_by_name(kind: u8) -> bool
     )
 }
 
-/// Does this visibility let other objects see a symbol?
+/// Whether this visibility lets other objects see a symbol.
 fn is_visible(visibility: u8) -> bool
     ensures { result ≡ is_visible visibility }
 {
     visibility == STV_DEFAULT || visibility == STV_PROTECTED
 }
 
-/// Is the version index 0?
+/// Whether the version index is 0.
 fn is_local(version: &Ver) -> bool
     ensures { result ≡ is_local version.now }
 {
@@ -210,7 +214,7 @@ fn is_local(version: &Ver) -> bool
     }
 }
 
-/// Is the version index 1?
+/// Whether the version index is 1.
 fn is_global(version: &Ver) -> bool
     ensures { result ≡ is_global version.now }
 {
@@ -220,7 +224,7 @@ fn is_global(version: &Ver) -> bool
     }
 }
 
-/// Is the version index 1 or 2?
+/// Whether the version index is 1 or 2.
 fn is_first_version(version: &Ver) -> bool
     ensures { result ≡ is_first_version version.now }
 {
@@ -231,7 +235,7 @@ fn is_first_version(version: &Ver) -> bool
     }
 }
 
-/// Does the version have this name?
+/// Whether the version has this name.
 fn has_version(version: &Ver, wanted: &[u8]) -> bool
     ensures { result ≡ has_version wanted.now version.now }
 {
@@ -241,7 +245,7 @@ fn has_version(version: &Ver, wanted: &[u8]) -> bool
     }
 }
 
-/// Is it of this version, or without one and not hidden?
+/// Whether it is of this version, or without one and not hidden.
 fn has_wanted_version(s: &Sym, wanted: &[u8]) -> bool
     ensures { result ≡ has_wanted_version wanted.now s.now }
 {

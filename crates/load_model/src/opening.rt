@@ -6,7 +6,8 @@ use crate::{Face, Flaw, Name};
 use path_text::Abs;
 use std::alloc::Global;
 
-/// What lies at a path. An object is named by its identity and by the place of its face in the table of the opener.
+/// What lies at a path. An object is named by its identity and by the place of its face in the table
+/// of the opener.
 #[derive(Drop)]
 pub enum Opened {
     Absent,
@@ -24,8 +25,8 @@ pub enum OpenFault {
 
 /// What opens files, and keeps their faces in a table that only grows.
 ///
-/// An opener may tell the world that it reads, and then its answers are those of this world. It always counts its
-/// faults.
+/// An opener may tell the world that it reads, and then its answers are those of this world. It
+/// always counts its faults.
 pub trait Opener {
     ghost use Rattle.load_model.specs.Opening.{IsOpened, OnlyGrew, OpenerView, AreFew};
 

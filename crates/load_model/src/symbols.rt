@@ -1,10 +1,15 @@
+//! Symbols: as words of a file, and as a loader sees them.
+//!
+//! System V gABI, Symbol Table; Linux Standard Base, Symbol Versioning.
+
 ghost use Rattle.std.specs.Prelude.{◌≡◌, IfOk};
 
 use crate::Name;
 use path_text::NoMemory;
 use std::alloc::Global;
 
-/// What a reference asks for: an address, a function to call, or a variable to copy into the program.
+/// What a reference asks for: an address, a function to call, or a variable to copy into the
+/// program.
 #[derive(Clone, Copy, PartialEq, Eq, Debug)]
 pub enum Class {
     Plain,
@@ -58,11 +63,11 @@ impl Ver {
 pub struct Sym {
     pub name: Name,
     pub version: Ver,
-    /// Is it a definition that is not the default of its name?
+    /// Whether it is a definition that is not the default of its name.
     pub hidden: bool,
-    /// Does it have a section?
+    /// Whether it has a section.
     pub defined: bool,
-    /// Does it have a value that a reference can bind to?
+    /// Whether it has a value that a reference can bind to.
     pub value_set: bool,
     /// Of the names that begin `STB_`.
     pub binding: u8,
