@@ -171,8 +171,8 @@ none_said f e = cc
 is_the_first : (entries : List Entry) (i place : ℕ) (e it : Entry) (f : Flaw) → slice_get entries i ≡ Some e → said (take i entries) e ≡ Some f → ((k : ℕ) (d : Entry) → k < i → slice_get entries k ≡ Some d → said (take k entries) d ≡ None) → slice_get entries place ≡ Some it → ¬ (IsFine entries place it) → ((k : ℕ) (d : Entry) → k < place → IsFine entries k d) → (i ≡ place) × (e ≡ it)
 is_the_first entries i place e it f there says silent it_there bad first =
     let same : i ≡ place = one_first i place
-      (λ l. let c : said (take i entries) e ≡ None = is_silent entries i e there (first i e l) in none_said f (sym c ∙ says))
-      (λ l. bad (is_fine entries place it (λ h. silent place it l h))) in
+    (λ l. let c : said (take i entries) e ≡ None = is_silent entries i e there (first i e l) in none_said f (sym c ∙ says))
+    (λ l. bad (is_fine entries place it (λ h. silent place it l h))) in
     let alike : slice_get entries i ≡ slice_get entries place = ap (slice_get entries) same in
     (same, cc)
 

@@ -1,4 +1,5 @@
--- The dynamic table and its strings, read through memory (System V gABI, Dynamic Section and String Table)
+-- The dynamic table and its strings, read through memory (System V gABI, Dynamic Section and String
+-- Table).
 use Rattle.std.specs.Prelude.{ℕ, ◌+◌, ◌*◌, ◌/◌, Bool, cond, ◌==◌, nat_lt, List, [], Option, Some, None, length, map, drop}
 use Rattle.std.specs.List.{find, before_first, range_with_len}
 use Rattle.std.specs.Option.{option_map, unwrap_or}
@@ -11,7 +12,8 @@ use Rattle.byte_view.specs.declared.segments.Segment.{Segment}
 
 -- The entry in these bytes.
 unfoldable pub entry_of : List ℕ → Entry
-entry_of bytes = record { tag = little_number 8 bytes; value = little_number 8 (drop D_VAL_AT bytes) }
+entry_of bytes =
+    record { tag = little_number 8 bytes; value = little_number 8 (drop D_VAL_AT bytes) }
 
 -- How many entries the segment has room for.
 abbrev pub capacity_of : Segment → ℕ
@@ -19,7 +21,9 @@ capacity_of s = s.filesz / DYN_SIZE
 
 -- All entries of the DYNAMIC segment, as memory has them.
 unfoldable pub table_of : List ℕ → List Segment → Segment → List Entry
-table_of file segments s = map (λ i. entry_of (memory_bytes file segments (s.vaddr + DYN_SIZE * i) DYN_SIZE)) (range_with_len 0 (capacity_of s))
+table_of file segments s =
+    map (λ i. entry_of (memory_bytes file segments (s.vaddr + DYN_SIZE * i) DYN_SIZE))
+    (range_with_len 0 (capacity_of s))
 
 abbrev pub is_end : Entry → Bool
 is_end e = e.tag == DT_NULL
@@ -53,10 +57,12 @@ strings_size entries = unwrap_or (value_of DT_STRSZ entries) 0
 
 -- The string table.
 unfoldable pub strings_of : List ℕ → List Segment → List Entry → List ℕ
-strings_of file segments entries = memory_bytes file segments (strings_at entries) (strings_size entries)
+strings_of file segments entries =
+    memory_bytes file segments (strings_at entries) (strings_size entries)
 
 abbrev pub text_in : List ℕ → ℕ → Option (List ℕ)
-text_in strings at = cond (nat_lt at (length strings)) (Some (before_first (λ c. c == 0) (drop at strings))) None
+text_in strings at =
+    cond (nat_lt at (length strings)) (Some (before_first (λ c. c == 0) (drop at strings))) None
 
 -- The bytes from a string place up to the next zero byte.
 unfoldable pub string_at : List ℕ → ℕ → Option (List ℕ)

@@ -1,4 +1,5 @@
--- The ELF header and the program headers, in the standard's terms (System V gABI, ELF Header and Program Header)
+-- The ELF header and the program headers, in the standard's terms (System V gABI, ELF Header and
+-- Program Header).
 use Rattle.std.specs.Prelude.{ℕ, ◌+◌, ◌*◌, Bool, ◌==◌, List, map, slice_index}
 use Rattle.std.specs.List.{range_with_len}
 use Rattle.byte_view.specs.Numbers.{number_at}
@@ -69,7 +70,8 @@ header_at file at = record {
 
 -- The program headers of a file.
 unfoldable pub headers : List ℕ → List Segment
-headers file = map (λ i. header_at file (e_phoff file + PHDR_SIZE * i)) (range_with_len 0 (e_phnum file))
+headers file =
+    map (λ i. header_at file (e_phoff file + PHDR_SIZE * i)) (range_with_len 0 (e_phnum file))
 
 -- What a program header describes.
 abbrev pub is_load : Segment → Bool

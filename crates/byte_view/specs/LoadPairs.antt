@@ -13,7 +13,8 @@ pub record IsLoadBefore (segments : List Segment) (j : ℕ) (before it : Segment
   pub it_there : slice_get segments j ≡ Some it
   pub before_load : is_load before ≡ true
   pub it_load : is_load it ≡ true
-  pub between : (k : ℕ) (s : Segment) → place < k → k < j → slice_get segments k ≡ Some s → is_load s ≡ false
+  pub between :
+      (k : ℕ) (s : Segment) → place < k → k < j → slice_get segments k ≡ Some s → is_load s ≡ false
 
 -- Header j is a PT_LOAD that begins below a bound that the PT_LOAD before it sets.
 pub record BeginsBelow (bound : Segment → ℕ) (segments : List Segment) (j : ℕ) : Type 0 where
@@ -27,7 +28,9 @@ pub record IsFirstBelow (bound : Segment → ℕ) (segments : List Segment) (j :
   pub here : BeginsBelow bound segments j
   pub first : (k : ℕ) → k < j → ¬ (BeginsBelow bound segments k)
 
--- A check names exactly the first header that does, by its number, and nothing exactly where none does.
-pub record NamesFirstBelow (bound : Segment → ℕ) (code : ℕ) (segments : List Segment) (found : Option Flaw) : Type 0 where
+-- A check names exactly the first header that does, by its number, and nothing exactly where none
+-- does.
+pub record NamesFirstBelow (bound : Segment → ℕ) (code : ℕ) (segments : List Segment)
+    (found : Option Flaw) : Type 0 where
   pub named : (j : ℕ) → (found ≡ Some (flaw code j 0)) ↔ IsFirstBelow bound segments j
   pub none : (found ≡ None) ↔ ((j : ℕ) → ¬ (BeginsBelow bound segments j))

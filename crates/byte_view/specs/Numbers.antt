@@ -1,7 +1,7 @@
--- Numbers in the bytes of a file: the lowest byte first (System V gABI, Data Encoding, ELFDATA2LSB)
+-- Numbers in the bytes of a file: the lowest byte first (System V gABI, Data Encoding, ELFDATA2LSB).
 use Rattle.std.specs.Prelude.{ℕ, List, drop}
 use Rattle.byteorder.specs.Endian.{little_number}
 
--- the number in the n bytes at a place
+-- The number in the n bytes at a place.
 unfoldable pub number_at : ℕ → List ℕ → ℕ → ℕ
 number_at n bytes at = little_number n (drop at bytes)

@@ -1,4 +1,5 @@
--- Entries of the dynamic table that are refused, or whose tag stood before (System V gABI, Dynamic Section).
+-- Entries of the dynamic table that are refused, or whose tag stood before (System V gABI, Dynamic
+-- Section).
 use Rattle.std.specs.Prelude.{ℕ, ◌≡◌, ◌<◌, ◌↔◌, true, List, Option, Some, None, slice_get}
 use Rattle.byte_view.specs.Checks.{flaw}
 use Rattle.byte_view.specs.DynamicFlaws.{is_refused, is_single}
@@ -43,7 +44,8 @@ pub record IsFirstRepeated (entries : List Entry) (tag : ℕ) : Type 0 where
   pub tagged : it.tag ≡ tag
   pub first : (k : ℕ) (e : Entry) → k < place → IsFine entries k e
 
--- A check names exactly the first entry that is not fine, by its tag, and nothing exactly where all are fine.
+-- A check names exactly the first entry that is not fine, by its tag, and nothing exactly where all
+-- are fine.
 pub record NamesFirstEntry (entries : List Entry) (found : Option Flaw) : Type 0 where
   pub refused : (tag : ℕ) → (found ≡ Some (flaw TAG_REFUSED tag 0)) ↔ IsFirstRefused entries tag
   pub repeated : (tag : ℕ) → (found ≡ Some (flaw REPEATED tag 0)) ↔ IsFirstRepeated entries tag

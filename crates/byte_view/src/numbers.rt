@@ -9,7 +9,8 @@ use byteorder::{ByteOrder, LittleEndian};
 /// The bytes from `at` on, where there are at least `len`.
 fn rest_at(bytes: &[u8], at: u64, len: usize) -> Option<&[u8]>
     requires { len ≤ 8 }
-    ensures { MatchOption result (length bytes.now < at + len) (λ rest. (rest.now ≡ drop at bytes.now) × (at + len ≤ length bytes.now)) }
+    ensures { MatchOption result (length bytes.now < at + len)
+        (λ rest. (rest.now ≡ drop at bytes.now) × (at + len ≤ length bytes.now)) }
 {
     let at = at as usize;
     if at <= bytes.len() && len <= bytes.len() - at {

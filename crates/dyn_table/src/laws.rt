@@ -7,8 +7,8 @@ ghost use Rattle.byte_view.specs.DynamicFlaws.{entry_flaw};
 ghost use Rattle.byte_view.specs.TagPlaces.{NamesFirstEntry};
 ghost use Rattle.byte_view.specs.declared.dynamic.Entry.{Entry};
 
-/// TagRefused or Repeated is named exactly at the first entry that is refused, or whose tag stands at
-/// most once and stood before: TagRefused where that entry is refused, and else Repeated.
+/// TagRefused or Repeated is named exactly at the first entry that is refused, or whose tag stands
+/// at most once and stood before: TagRefused where that entry is refused, and else Repeated.
 pub fn first_entry_is_named()
     ensures { (entries : List Entry) → NamesFirstEntry entries (entry_flaw [] entries) }
 {}

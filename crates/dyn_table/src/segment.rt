@@ -62,7 +62,8 @@ fn is_placed(elf: &Elf, s: &Segment) -> bool
 /// The DYNAMIC segment: the only one, with room for an entry, and loaded from where it says.
 #[tactic(auto, unfolding(byte_view::specs::DynamicFlaws::place_flaw))]
 fn dynamic_segment(elf: &Elf) -> Result<Segment, DynFault>
-    ensures flaw { TellsBy dyn_fault_flaw result (segment_flaw_by elf.now (find is_dynamic elf.now)) }
+    ensures flaw { TellsBy dyn_fault_flaw result
+        (segment_flaw_by elf.now (find is_dynamic elf.now)) }
     ensures found { IfOk result (λ s. find is_dynamic elf.now ≡ Some s) }
 {
     let segments = elf.segments();
@@ -106,7 +107,8 @@ fn read_entries(alloc: Global, bytes: &[u8], s: &Segment) -> Result<Vec<Entry>, 
 #[tactic(auto, using(crate::proofs::Placed::dynamic_within, crate::proofs::Placed::table_found))]
 pub(crate) fn read_table(alloc: Global, elf: &Elf, bytes: &[u8]) -> Result<Vec<Entry>, DynFault>
     requires { IsReadFrom elf.now bytes.now }
-    ensures flaw { TellsBy dyn_fault_flaw result (segment_flaw_by elf.now (find is_dynamic elf.now)) }
+    ensures flaw { TellsBy dyn_fault_flaw result
+        (segment_flaw_by elf.now (find is_dynamic elf.now)) }
     ensures table { IfOk result (λ table. table.items ≡ dynamic_table bytes.now) }
 {
     let segment = dynamic_segment(elf)?;

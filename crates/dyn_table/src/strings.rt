@@ -67,7 +67,8 @@ pub(crate) fn check_strings(
 ) -> Result<(usize, usize), DynFault>
     requires { IsReadFrom elf.now bytes.now }
     ensures flaw { TellsBy dyn_fault_flaw result (strings_flaw bytes.now elf.now entries.now) }
-    ensures range { IfOk result (λ range. range_in elf.now (strings_at entries.now) (strings_size entries.now) ≡ Some range) }
+    ensures range { IfOk result (λ range.
+        range_in elf.now (strings_at entries.now) (strings_size entries.now) ≡ Some range) }
 {
     let at = strings_at(entries);
     let size = strings_size(entries);

@@ -36,7 +36,12 @@ impl Model for Dyn {
 
     ghost Value = { Table };
 
-    ghost view = { λ t. record { entries = t.entries.items; capacity = t.capacity; from = t.from; to = t.to } };
+    ghost view = { λ t. record {
+      entries = t.entries.items;
+      capacity = t.capacity;
+      from = t.from;
+      to = t.to;
+    } };
 }
 
 impl Dyn {
@@ -107,7 +112,9 @@ fn check_table(elf: &Elf, bytes: &[u8], table: &[Entry]) -> Result<Parts, DynFau
     requires { IsReadFrom elf.now bytes.now }
     ensures flaw { TellsBy dyn_fault_flaw result (table_flaw bytes.now elf.now table.now) }
     ensures end { IfOk result (λ parts. take parts.end table.now ≡ before_first is_end table.now) }
-    ensures strings { IfOk result (λ parts. range_in elf.now (strings_at (before_first is_end table.now)) (strings_size (before_first is_end table.now)) ≡ Some (parts.from, parts.to)) }
+    ensures strings { IfOk result (λ parts.
+        let entries = before_first is_end table.now in
+        range_in elf.now (strings_at entries) (strings_size entries) ≡ Some (parts.from, parts.to)) }
 {
     let Some(end) = first_end(table) else {
         return Err(flawed(NO_END, 0));

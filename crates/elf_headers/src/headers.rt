@@ -74,8 +74,8 @@ impl Elf {
         }
     }
 
-    /// The file places where `len` addresses from `addr` on begin and end, if one loaded segment has
-    /// them all within its file size. `(0, 0)` for a `len` of 0.
+    /// The file places where `len` addresses from `addr` on begin and end, if one loaded segment
+    /// has them all within its file size. `(0, 0)` for a `len` of 0.
     #[tactic(auto, unfolding(byte_view::specs::Memory::range_in))]
     pub fn range(&self, addr: u64, len: u64) -> Option<(usize, usize)>
         ensures { result ≡ range_in self.now addr len }
@@ -102,7 +102,8 @@ impl Elf {
     #[tactic(auto, using(crate::proofs::Usable::backer_limits))]
     fn backer(&self, addr: u64, len: u64) -> Option<Segment>
         ensures first { result ≡ find (backs addr len) self.now }
-        ensures limits { IfSome result (λ s. (s.vaddr ≤ addr) × (file_end s ≤ LONGEST_FILE) × (addr + len ≤ s.vaddr + s.filesz)) }
+        ensures limits { IfSome result (λ s.
+            (s.vaddr ≤ addr) × (file_end s ≤ LONGEST_FILE) × (addr + len ≤ s.vaddr + s.filesz)) }
     {
         first_backer(&self.segments, addr, len)
     }

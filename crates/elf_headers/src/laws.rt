@@ -21,12 +21,15 @@ pub fn loads_are_apart()
 
 /// At most one loaded segment holds an address.
 pub fn at_most_one_load_holds()
-    ensures { (file : List ℕ) → header_flaw file ≡ None → (addr : ℕ) → length (filter (holds addr) (headers file)) ≤ 1 }
+    ensures { (file : List ℕ) → header_flaw file ≡ None →
+        (addr : ℕ) → length (filter (holds addr) (headers file)) ≤ 1 }
 {}
 
 /// SegmentOrder is named exactly at the first loaded segment that begins below the beginning of the
 /// loaded segment before it, and SegmentOverlap at the first that begins below that one's end.
 pub fn first_below_is_named()
-    ensures order { (segments : List Segment) → NamesFirstBelow (λ s. s.vaddr) SEGMENT_ORDER segments (falling segments) }
-    ensures overlap { (segments : List Segment) → NamesFirstBelow memory_end SEGMENT_OVERLAP segments (overlapping segments) }
+    ensures order { (segments : List Segment) →
+        NamesFirstBelow (λ s. s.vaddr) SEGMENT_ORDER segments (falling segments) }
+    ensures overlap { (segments : List Segment) →
+        NamesFirstBelow memory_end SEGMENT_OVERLAP segments (overlapping segments) }
 {}

@@ -91,7 +91,8 @@ impl Bound {
     }
 }
 
-/// The first loaded segment whose address is below the bound that the loaded segment before it sets.
+/// The first loaded segment whose address is below the bound that the loaded segment before it
+/// sets.
 #[tactic(auto, unfolding(byte_view::specs::HeaderFlaws::first_below))]
 fn first_below(segments: &[Segment], bound: Bound) -> Option<usize>
     ensures { result ≡ first_below (bound_by bound) 0 0 segments.now }

@@ -3,18 +3,18 @@ use Rattle.std.specs.Prelude.{ℕ, List, [], Bool, ◌≢◌, ◌==◌, ◌≤�
 use Rattle.std.specs.List.{list_all}
 use Rattle.path_text.specs.Path.{is_idle, is_parent}
 
--- neither `/` (47) nor `$` (36), nor a control byte
+-- Neither `/` (47) nor `$` (36), nor a control byte.
 abbrev pub IsNameByte : ℕ → Type 0
 IsNameByte c = (c ≢ 47) × (c ≢ 36) × (32 ≤ c) × (c ≢ 127)
 
--- a name: not empty, `.` or `..`, and each byte may stand in a name
+-- A name: not empty, `.` or `..`, and each byte may stand in a name.
 pub record IsFileName (text : List ℕ) : Type 0 where
   pub not_empty : text ≢ []
   pub not_here : text ≢ codes "."
   pub not_parent : text ≢ codes ".."
   pub bytes : All IsNameByte text
 
--- the same, as tests that compute
+-- The same, as tests that compute.
 
 abbrev pub is_name_byte : ℕ → Bool
 is_name_byte c = not (c == 47) && not (c == 36) && nat_le 32 c && not (c == 127)

@@ -7,7 +7,7 @@ use Rattle.path_text.specs.Path.{parts_of, IsNamed, is_idle, is_parent, is_empty
 use Rattle.path_text.specs.declared.relative.RelFault.{RelFault}
 use Rattle.path_text.specs.declared.relative.RelFault.TheVariants.{Empty, Absolute, HasNul, NotText, BadPart, NoMemory}
 
--- parts that each name something, without control bytes
+-- Parts that each name something, without control bytes.
 pub record IsTarget (text : List ℕ) : Type 0 where
   pub named : All IsNamed (parts_of text)
   pub no_control : All (λ c. 32 ≤ c) text
@@ -16,14 +16,14 @@ pub record IsTarget (text : List ℕ) : Type 0 where
 abbrev pub has_control : List ℕ → Bool
 has_control part = list_any (λ c. nat_lt c 32) part
 
--- a part that names nothing, or holds a control byte
+-- A part that names nothing, or holds a control byte.
 abbrev pub is_bad_part : List ℕ → Bool
 is_bad_part part = is_idle part || is_parent part || has_control part
 
 abbrev pub has_bad_part : List ℕ → Bool
 has_bad_part text = list_any is_bad_part (parts_of text)
 
--- the first fault of a target
+-- The first fault of a target.
 unfoldable pub target_fault : List ℕ → Option RelFault
 target_fault text = first_some (
     some_where (is_empty text) Empty ∷
@@ -32,7 +32,7 @@ target_fault text = first_some (
     some_where (not (is_utf8 text)) NotText ∷
     some_where (has_bad_part text) BadPart ∷ [])
 
--- the first fault of the text, or else the text
+-- The first fault of the text, or else the text.
 abbrev pub target_of : List ℕ → Result (List ℕ) RelFault
 target_of text = value_unless (target_fault text) text
 
@@ -41,7 +41,7 @@ abbrev pub said_of_target : RelFault → Option RelFault
 said_of_target NoMemory = None
 said_of_target fault = Some fault
 
--- what a fault says of the text
+-- What a fault says of the text.
 abbrev pub IsTargetFault : RelFault → List ℕ → Type 0
 IsTargetFault Empty text = text ≡ []
 IsTargetFault Absolute text = begins_at_root text ≡ true

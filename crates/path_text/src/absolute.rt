@@ -1,3 +1,5 @@
+//! Absolute paths: reading one brings it into normal form. The definition is in `specs/Path.antt`.
+
 ghost use Rattle.std.specs.Prelude.{◌≡◌, ◌≢◌, ◌∷◌, ◌++◌, IfErr, IfOk, MatchResult, None, OnOk, Some};
 ghost use Rattle.answers.specs.Answers.{Answers};
 ghost use Rattle.path_text.specs.Path.{IsNormalPath, IsPath, IsPathFault, base_of, folder_of, path_fault, path_of, said_of_path};
@@ -24,7 +26,8 @@ pub enum PathFault {
     NoMemory,
 }
 
-/// An absolute path in normal form: `/` followed by parts joined with `/`, no part empty, `.` or `..`.
+/// An absolute path in normal form: `/` followed by parts joined with `/`, no part empty, `.` or
+/// `..`.
 #[derive(Drop)]
 pub struct Abs {
     text: String,
@@ -115,7 +118,9 @@ impl Abs {
 /// The text of a path, where it has no fault.
 #[tactic(auto, unfolding(crate::specs::Path::path_fault))]
 fn checked(text: &[u8]) -> Result<&str, PathFault>
-    ensures { MatchResult result (λ s. (s.now ≡ text.now) × (path_fault text.now ≡ None)) (λ e. path_fault text.now ≡ Some e) }
+    ensures { MatchResult result
+        (λ s. (s.now ≡ text.now) × (path_fault text.now ≡ None))
+        (λ e. path_fault text.now ≡ Some e) }
 {
     if text.is_empty() {
         return Err(PathFault::Empty);

@@ -15,17 +15,20 @@ pub fn normal_path_is_read_unchanged()
 
 /// A path is its base, joined to its folder.
 pub fn folder_and_base_join()
-    ensures { (text : List ℕ) → IsNormalPath text → path_of (folder_of text ++ 47 ∷ base_of text) ≡ Ok text }
+    ensures { (text : List ℕ) → IsNormalPath text →
+        path_of (folder_of text ++ 47 ∷ base_of text) ≡ Ok text }
 {}
 
 /// A target, joined to a path, gives the path of the parts of both.
 pub fn target_joins_behind_path()
-    ensures { (path target : List ℕ) → IsNormalPath path → IsTarget target → path_of (path ++ 47 ∷ target) ≡ Ok (rooted (named_parts path ++ parts_of target)) }
+    ensures { (path target : List ℕ) → IsNormalPath path → IsTarget target →
+        path_of (path ++ 47 ∷ target) ≡ Ok (rooted (named_parts path ++ parts_of target)) }
 {}
 
 /// What is read as a target is one, and it is the text.
 pub fn read_target_is_target()
-    ensures { (text target : List ℕ) → target_of text ≡ Ok target → (target ≡ text) × IsTarget text }
+    ensures { (text target : List ℕ) → target_of text ≡ Ok target →
+        (target ≡ text) × IsTarget text }
 {}
 
 /// A target is read as it is.

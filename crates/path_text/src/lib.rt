@@ -1,4 +1,5 @@
-//! Texts of paths: absolute ones in normal form, the targets of a directory's items, and file names.
+//! Texts of paths: absolute ones in normal form, the targets of a directory's items, and file
+//! names.
 #![tactic(auto)]
 
 mod absolute;

@@ -1,3 +1,5 @@
+//! Names that a file can be given. The definition is in `specs/FileName.antt`.
+
 ghost use Rattle.std.specs.Prelude.{◌≡◌, ◌↔◌, IsTrue};
 ghost use Rattle.std.specs.List.{list_all};
 ghost use Rattle.path_text.specs.FileName.{IsFileName, is_file_name_text, is_name_byte};

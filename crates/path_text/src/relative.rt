@@ -1,3 +1,5 @@
+//! Targets, the paths of items in a directory. The definition is in `specs/Target.antt`.
+
 ghost use Rattle.std.specs.Prelude.{◌≡◌, IfErr, IfOk, MatchResult, None, Some};
 ghost use Rattle.answers.specs.Answers.{Answers};
 ghost use Rattle.path_text.specs.Target.{IsTarget, IsTargetFault, has_bad_part, has_control, is_bad_part, said_of_target, target_fault, target_of};
@@ -25,7 +27,8 @@ pub enum RelFault {
     NoMemory,
 }
 
-/// The path of an item in a directory: parts joined with `/`, no part empty, `.` or `..`, no byte below 32.
+/// The path of an item in a directory: parts joined with `/`, no part empty, `.` or `..`, and no
+/// control byte.
 #[derive(Drop)]
 pub struct Rel {
     text: String,
@@ -82,7 +85,9 @@ impl Rel {
 /// The text of a target, where it has no fault.
 #[tactic(auto, unfolding(crate::specs::Target::target_fault))]
 fn checked(text: &[u8]) -> Result<&str, RelFault>
-    ensures { MatchResult result (λ s. (s.now ≡ text.now) × (target_fault text.now ≡ None)) (λ e. target_fault text.now ≡ Some e) }
+    ensures { MatchResult result
+        (λ s. (s.now ≡ text.now) × (target_fault text.now ≡ None))
+        (λ e. target_fault text.now ≡ Some e) }
 {
     if text.is_empty() {
         return Err(RelFault::Empty);

@@ -1,4 +1,5 @@
 //! Tests of texts and of their parts that paths, targets and names share.
+
 ghost use Rattle.std.specs.Prelude.{◌≡◌, MatchOption, false, true};
 ghost use Rattle.std.specs.Str.{is_utf8};
 ghost use Rattle.path_text.specs.Path.{begins_at_root, has_nul, is_idle, is_parent};
@@ -10,6 +11,7 @@ pub(crate) fn begins_at_root(text: &[u8]) -> bool
     text.first() == Some(&b'/')
 }
 
+/// Whether a byte is zero.
 pub(crate) fn has_nul(text: &[u8]) -> bool
     ensures { result ≡ has_nul text.now }
 {
@@ -18,7 +20,8 @@ pub(crate) fn has_nul(text: &[u8]) -> bool
 
 /// The bytes as text, where they are UTF-8.
 pub(crate) fn text_of(bytes: &[u8]) -> Option<&str>
-    ensures { MatchOption result (is_utf8 bytes.now ≡ false) (λ s. (s.now ≡ bytes.now) × (is_utf8 bytes.now ≡ true)) }
+    ensures { MatchOption result (is_utf8 bytes.now ≡ false)
+        (λ s. (s.now ≡ bytes.now) × (is_utf8 bytes.now ≡ true)) }
 {
     match std::str::from_utf8(bytes) {
         Ok(text) => Some(text),
@@ -33,6 +36,7 @@ pub(crate) fn is_idle(part: &[u8]) -> bool
     part.is_empty() || part == b".".as_slice()
 }
 
+/// Whether a part of a path leads to the parent.
 pub(crate) fn is_parent(part: &[u8]) -> bool
     ensures { result ≡ is_parent part.now }
 {
