@@ -15,6 +15,7 @@ mod refusals;
 mod runs;
 mod search_laws;
 mod setting;
+mod symbol_words;
 mod symbols;
 mod world;
 
@@ -42,5 +43,6 @@ pub use search_laws::{
     small_host_loads_alike,
 };
 pub use setting::Setting;
+pub use symbol_words::has_value;
 pub use symbols::{Class, RawSym, Sym, Ver};
 pub use world::WorldFile;

@@ -1,10 +1,10 @@
 pub mod Backing
 pub mod Placing
-pub mod Chains
 pub mod Reach
 pub mod Runs
 pub mod GnuParts
 pub mod RawSymbols
-pub mod Lost
 pub mod Whole
 pub mod Unflawed
+pub mod Depths
+pub mod Linked

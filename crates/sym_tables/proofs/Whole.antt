@@ -4,7 +4,7 @@ use Rattle.std.specs.Prelude.{nat_le, Result, Ok, Err, IfOk}
 use Rattle.answers.specs.Answers.{TellsBy}
 use Rattle.byte_view.specs.Memory.{memory_bytes}
 use Rattle.load_model.specs.SymbolTable.{symbol_of, symbols_at, symbols_in}
-use Rattle.sym_tables.specs.Faults.{flaw_of}
+use Rattle.sym_tables.specs.Faults.{symbol_fault_flaw}
 use Rattle.sym_tables.specs.declared.faults.SymFault.{SymFault}
 use Rattle.std.specs.List.{list_all}
 use Rattle.std.specs.Option.{option_and_then, option_map}
@@ -25,7 +25,7 @@ use Rattle.load_model.specs.declared.symbols.RawSym.{RawSym}
 use Rattle.sym_tables.specs.Counts.{counts_flaw}
 use Rattle.sym_tables.specs.FoundTables.{HasBucket, IsGnuAt, IsSysvAt}
 use Rattle.sym_tables.specs.Listing.{file_strings, gnu_of, lists_flaw, sysv_of}
-use Rattle.sym_tables.specs.ReadSymbols.{AreSymsBy, AreTablesOf, IsSymsOf, Symbols}
+use Rattle.sym_tables.specs.ReadSymbols.{AreSymsBy, AreHashTablesOf, IsSymsOf, Symbols}
 use Rattle.sym_tables.specs.declared.gnu.FoundGnu.{FoundGnu}
 use Rattle.sym_tables.specs.declared.sysv.FoundSysv.{FoundSysv}
 use Rattle.sym_tables.specs.declared.tables.Tables.{Tables}
@@ -66,12 +66,12 @@ gnu_tables file segments (Some f) None e = absurd e
 gnu_tables file segments (Some f) (Some addr) e = ap Some e.table
 
 -- the counts that the tables give
-pub counts_are : (file : List ℕ) (segments : List Segment) (entries : List Entry) (t : Tables) → AreTablesOf t file segments entries → counts_flaw (section_count file entries) (option_map (λ f. length f.table.chains) t.sysv) (option_and_then (λ f. f.reach) t.gnu) ≡ count_flaw file segments entries
+pub counts_are : (file : List ℕ) (segments : List Segment) (entries : List Entry) (t : Tables) → AreHashTablesOf t file segments entries → counts_flaw (section_count file entries) (option_map (λ f. length f.table.chains) t.sysv) (option_and_then (λ f. f.reach) t.gnu) ≡ count_flaw file segments entries
 unfolding counts_flaw count_flaw count_in
 counts_are file segments entries t are =
     rw (hash_counts file segments t.sysv (value_of DT_HASH entries) are.sysv, reaches file segments t.gnu (value_of DT_GNU_HASH entries) are.gnu) refl
 
-pub count_is : (file : List ℕ) (segments : List Segment) (entries : List Entry) (t : Tables) (count : ℕ) → AreTablesOf t file segments entries → first_count (section_count file entries) (option_map (λ f. length f.table.chains) t.sysv) (option_and_then (λ f. f.reach) t.gnu) ≡ Some count → count ≡ count_by file segments entries
+pub count_is : (file : List ℕ) (segments : List Segment) (entries : List Entry) (t : Tables) (count : ℕ) → AreHashTablesOf t file segments entries → first_count (section_count file entries) (option_map (λ f. length f.table.chains) t.sysv) (option_and_then (λ f. f.reach) t.gnu) ≡ Some count → count ≡ count_by file segments entries
 unfolding count_in
 count_is file segments entries t count are e =
     let same : count_in file segments entries ≡ Some count = rw (hash_counts file segments t.sysv (value_of DT_HASH entries) are.sysv, reaches file segments t.gnu (value_of DT_GNU_HASH entries) are.gnu) at e in
@@ -86,7 +86,7 @@ has_bucket t e = go (nat_le 1 (length t.buckets)) refl e
     go true h e = grind (arith, nat_tests)
     go false h e = absurd (cc)
 
-pub tables_sound : (file : List ℕ) (segments : List Segment) (entries : List Entry) (t : Tables) → AreTablesOf t file segments entries → HasBucket t.sysv
+pub tables_sound : (file : List ℕ) (segments : List Segment) (entries : List Entry) (t : Tables) → AreHashTablesOf t file segments entries → HasBucket t.sysv
 tables_sound file segments entries t are = go t.sysv (value_of DT_HASH entries) are.sysv
   where
     go : (found : Option FoundSysv) (at : Option ℕ) → IsSysvAt found file segments at → HasBucket found
@@ -95,7 +95,7 @@ tables_sound file segments entries t are = go t.sysv (value_of DT_HASH entries) 
     go (Some f) (Some addr) e = has_bucket f.table e.sound
 
 -- the flaws of the list of symbols
-pub list_is : (file : List ℕ) (segments : List Segment) (table : Table) (t : Tables) (symbols : List RawSym) → IsReadFrom segments file → IsTableOf table file → AreTablesOf t file segments table.entries → lists_flaw (strings_size table.entries) (sysv_of t.sysv) (gnu_of t.gnu) (file_strings file) symbols ≡ list_flaw file segments table.entries symbols
+pub list_is : (file : List ℕ) (segments : List Segment) (table : Table) (t : Tables) (symbols : List RawSym) → IsReadFrom segments file → IsTableOf table file → AreHashTablesOf t file segments table.entries → lists_flaw (strings_size table.entries) (sysv_of t.sysv) (gnu_of t.gnu) (file_strings file) symbols ≡ list_flaw file segments table.entries symbols
 unfolding lists_flaw list_flaw
 list_is file segments table t symbols r is are =
     let strings : file_strings file ≡ strings_of file segments table.entries = rw (r.same, is.entries) refl in
@@ -120,7 +120,7 @@ symbols_many : (file : List ℕ) (segments : List Segment) (addr count : ℕ) �
 unfolding symbols_in
 symbols_many file segments addr count = length-map-range_with_len (λ i. symbol_of (memory_bytes file segments (addr + 24 * i) 24) 0) 0 count
 
-pub syms_made : (file : List ℕ) (segments : List Segment) (entries : List Entry) (t : Tables) (symbols : List RawSym) (addr count : ℕ) → AreTablesOf t file segments entries → count ≡ count_by file segments entries → addr ≡ symbols_at entries → symbols ≡ symbols_in file segments addr count → AreSymsBy (record { count = length symbols; raw = symbols; hash_range = option_map (λ f. f.range) t.sysv; gnu_range = option_map (λ f. f.range) t.gnu }) file segments entries
+pub syms_made : (file : List ℕ) (segments : List Segment) (entries : List Entry) (t : Tables) (symbols : List RawSym) (addr count : ℕ) → AreHashTablesOf t file segments entries → count ≡ count_by file segments entries → addr ≡ symbols_at entries → symbols ≡ symbols_in file segments addr count → AreSymsBy (record { count = length symbols; raw = symbols; hash_range = option_map (λ f. f.range) t.sysv; gnu_range = option_map (λ f. f.range) t.gnu }) file segments entries
 syms_made file segments entries t symbols addr count are c at s = record {
   count = ap length s ∙ (symbols_many file segments addr count ∙ c);
   raw = rw (at, c) at s;
@@ -128,6 +128,6 @@ syms_made file segments entries t symbols addr count are c at s = record {
   gnu_range = gnu_ranges file segments t.gnu (value_of DT_GNU_HASH entries) are.gnu;
 }
 
-pub syms_of_result : (file : List ℕ) (segments : List Segment) (table : Table) (r : Result Symbols SymFault) → IsReadFrom segments file → IsTableOf table file → TellsBy flaw_of r (symbol_flaw_by file segments table.entries) → IfOk r (λ s. AreSymsBy s file segments table.entries) → IfOk r (λ s. IsSymsOf s file)
+pub syms_of_result : (file : List ℕ) (segments : List Segment) (table : Table) (r : Result Symbols SymFault) → IsReadFrom segments file → IsTableOf table file → TellsBy symbol_fault_flaw r (symbol_flaw_by file segments table.entries) → IfOk r (λ s. AreSymsBy s file segments table.entries) → IfOk r (λ s. IsSymsOf s file)
 syms_of_result file segments table (Ok s) r is tells are = syms_are file segments table s r is tells are
 syms_of_result file segments table (Err e) r is tells are = tt

@@ -5,6 +5,6 @@ use Rattle.sym_tables.specs.declared.faults.SymFault.{SymFault}
 use Rattle.sym_tables.specs.declared.faults.SymFault.TheVariants.{Flawed, NoMemory}
 
 -- want of memory names none
-abbrev pub flaw_of : SymFault → Option Flaw
-flaw_of (Flawed f) = Some f
-flaw_of NoMemory = None
+abbrev pub symbol_fault_flaw : SymFault → Option Flaw
+symbol_fault_flaw (Flawed f) = Some f
+symbol_fault_flaw NoMemory = None

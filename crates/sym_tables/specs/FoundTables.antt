@@ -1,9 +1,11 @@
 -- The hash tables that were found in a file
-use Rattle.std.specs.Prelude.{true, ℕ, ◌≡◌, ◌≤◌, length, List, Option, Some, None}
+use Rattle.std.specs.Prelude.{Bool, true, ℕ, ◌≡◌, ◌≤◌, ◌&&◌, nat_le, length, List, Option, Some, None}
 use Rattle.byte_view.specs.declared.segments.Segment.{Segment}
 use Rattle.load_model.specs.GnuTable.{GnuTable, gnu_place, gnu_reach, gnu_table}
-use Rattle.load_model.specs.SysvTable.{is_sysv_sound, sysv_place, sysv_table}
+use Rattle.load_model.specs.SysvTable.{SysvTable, is_link, is_sysv_sound, sysv_place, sysv_table}
+use Rattle.std.specs.List.{list_all}
 use Rattle.sym_tables.specs.declared.sysv.FoundSysv.{FoundSysv}
+use Rattle.sym_tables.specs.declared.sysv.SysvWords.{SysvWords}
 use Rattle.sym_tables.specs.declared.gnu.FoundGnu.{FoundGnu}
 use Rattle.sym_tables.specs.declared.gnu.Front.{Front}
 
@@ -21,6 +23,16 @@ abbrev pub IsGnuAt : Option FoundGnu → List ℕ → List Segment → Option �
 IsGnuAt None file segments at = at ≡ None
 IsGnuAt (Some f) file segments None = ⊥
 IsGnuAt (Some f) file segments (Some addr) = IsFoundGnu f file segments addr
+
+-- the table of these words
+abbrev pub words_table : SysvWords → SysvTable
+words_table w = record { buckets = w.buckets.items; chains = w.chains.items }
+
+-- it has a bucket, and each word names a symbol or is 0
+abbrev pub is_linked : SysvTable → Bool
+is_linked t =
+    nat_le 1 (length t.buckets)
+    && (list_all (λ w. is_link (length t.chains) w) t.buckets && list_all (λ w. is_link (length t.chains) w) t.chains)
 
 pub record IsFoundSysv (f : FoundSysv) (file : List ℕ) (segments : List Segment) (addr : ℕ) : Type 0 where
   pub table : f.table ≡ sysv_table file segments addr

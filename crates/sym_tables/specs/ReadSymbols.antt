@@ -28,7 +28,7 @@ pub record IsSymsOf (s : Symbols) (file : List ℕ) : Type 0 where
   pub gnu_range : s.gnu_range ≡ gnu_range file
 
 -- the hash tables are those that the dynamic table names
-pub record AreTablesOf (t : Tables) (file : List ℕ) (segments : List Segment) (entries : List Entry) : Type 0 where
+pub record AreHashTablesOf (t : Tables) (file : List ℕ) (segments : List Segment) (entries : List Entry) : Type 0 where
   pub sysv : IsSysvAt t.sysv file segments (value_of DT_HASH entries)
   pub gnu : IsGnuAt t.gnu file segments (value_of DT_GNU_HASH entries)
 

@@ -8,7 +8,7 @@ ghost use Rattle.load_model.specs.SymbolCount.{first_count, has_sections, is_sec
 ghost use Rattle.load_model.specs.SymbolFlaws.{differing_counts, reach_past};
 ghost use Rattle.std.specs.List.{find};
 ghost use Rattle.sym_tables.specs.Counts.{counts_flaw};
-ghost use Rattle.sym_tables.specs.Faults.{flaw_of};
+ghost use Rattle.sym_tables.specs.Faults.{symbol_fault_flaw};
 
 use crate::faults::{SymFault, flawed};
 use crate::tags::symbols_at;
@@ -86,7 +86,7 @@ fn differ(a: u64, b: u64) -> SymFault
 
 /// Do section and hash table say the same?
 fn check_same(section: Option<u64>, hash: Option<u64>) -> Result<(), SymFault>
-    ensures { TellsBy flaw_of result (differing_counts section hash) }
+    ensures { TellsBy symbol_fault_flaw result (differing_counts section hash) }
 {
     match (section, hash) {
         (Some(a), Some(b)) => { if a == b { Ok(()) } else { Err(differ(a, b)) } }
@@ -96,7 +96,7 @@ fn check_same(section: Option<u64>, hash: Option<u64>) -> Result<(), SymFault>
 
 /// Does the GNU hash table reach no further than the symbols?
 fn check_reach(count: u64, reach: Option<u64>) -> Result<(), SymFault>
-    ensures { TellsBy flaw_of result (reach_past count reach) }
+    ensures { TellsBy symbol_fault_flaw result (reach_past count reach) }
 {
     match reach {
         Some(reach) => {
@@ -117,7 +117,7 @@ pub(crate) fn check_count(
     hash: Option<u64>,
     reach: Option<u64>,
 ) -> Result<u64, SymFault>
-    ensures flaw { TellsBy flaw_of result (counts_flaw section hash reach) }
+    ensures flaw { TellsBy symbol_fault_flaw result (counts_flaw section hash reach) }
     ensures count { IfOk result (λ count. first_count section hash reach ≡ Some count) }
 {
     let Some(count) = first_count(section, hash, reach) else {

@@ -8,7 +8,7 @@ ghost use Rattle.byte_view.specs.Numbers.{number_at};
 ghost use Rattle.byte_view.specs.Sound.{IsReadFrom};
 ghost use Rattle.load_model.specs.GnuTable.{chains_from, gnu_lists, greatest, has_bit_of, is_gnu_sound, is_in_run, is_last, passes_bloom};
 ghost use Rattle.load_model.specs.SymbolFlaws.{bad_gnu};
-ghost use Rattle.sym_tables.specs.Faults.{flaw_of};
+ghost use Rattle.sym_tables.specs.Faults.{symbol_fault_flaw};
 ghost use Rattle.sym_tables.specs.Runs.{AreStarts};
 ghost use Rattle.sym_tables.specs.FoundTables.{IsFoundGnu, IsGnuAt, front_table};
 ghost use Rattle.sym_tables.specs.Places.{AreFrontParts, HasNoReach, IsFrontOf, IsGnuHeader, IsReachOf};
@@ -379,7 +379,7 @@ impl FoundGnu {
     #[tactic(auto, using(crate::proofs::GnuParts::gnu_cut, crate::proofs::GnuParts::gnu_unsound, crate::proofs::GnuParts::gnu_unended, crate::proofs::GnuParts::gnu_whole))]
     fn read_at(alloc: Global, elf: &Elf, bytes: &[u8], addr: u64) -> Result<FoundGnu, SymFault>
         requires { IsReadFrom elf.now bytes.now }
-        ensures flaw { TellsBy flaw_of result (bad_gnu bytes.now elf.now (Some addr)) }
+        ensures flaw { TellsBy symbol_fault_flaw result (bad_gnu bytes.now elf.now (Some addr)) }
         ensures table { IfOk result (λ f. IsFoundGnu f bytes.now elf.now addr) }
     {
         let Ok(front) = Front::read(alloc, elf, bytes, addr) else {
@@ -408,7 +408,7 @@ impl FoundGnu {
         at: Option<u64>,
     ) -> Result<Option<FoundGnu>, SymFault>
         requires { IsReadFrom elf.now bytes.now }
-        ensures flaw { TellsBy flaw_of result (bad_gnu bytes.now elf.now at) }
+        ensures flaw { TellsBy symbol_fault_flaw result (bad_gnu bytes.now elf.now at) }
         ensures table { IfOk result (λ found. IsGnuAt found bytes.now elf.now at) }
     {
         match at {

@@ -6,7 +6,7 @@ ghost use Rattle.answers.specs.Answers.{TellsBy};
 ghost use Rattle.byte_view.specs.Sound.{IsReadFrom};
 ghost use Rattle.load_model.specs.SymbolFlaws.{bad_symbol_name, unbacked_symbols};
 ghost use Rattle.load_model.specs.SymbolTable.{symbol_of, symbols_in};
-ghost use Rattle.sym_tables.specs.Faults.{flaw_of};
+ghost use Rattle.sym_tables.specs.Faults.{symbol_fault_flaw};
 
 use crate::faults::{SymFault, flawed};
 use byte_view::constants::SYM_SIZE;
@@ -55,7 +55,7 @@ pub(crate) fn read_symbols(
     count: u64,
 ) -> Result<Vec<RawSym>, SymFault>
     requires { IsReadFrom elf.now bytes.now }
-    ensures flaw { TellsBy flaw_of result (unbacked_symbols elf.now addr count) }
+    ensures flaw { TellsBy symbol_fault_flaw result (unbacked_symbols elf.now addr count) }
     ensures symbols { IfOk result (λ symbols. symbols.items ≡ symbols_in bytes.now elf.now addr count) }
     ensures few { IfOk result (λ symbols. length symbols.items < 2 ^ 32) }
 {
@@ -79,7 +79,7 @@ fn first_bad_name(size: u64, symbols: &[RawSym]) -> Option<usize>
 
 /// Are the names of all symbols in a string table of this size?
 pub(crate) fn check_names(size: u64, symbols: &[RawSym]) -> Result<(), SymFault>
-    ensures { TellsBy flaw_of result (bad_symbol_name size symbols.now) }
+    ensures { TellsBy symbol_fault_flaw result (bad_symbol_name size symbols.now) }
 {
     match first_bad_name(size, symbols) {
         Some(i) => Err(flawed(SYMBOL_NAME, i as u64)),

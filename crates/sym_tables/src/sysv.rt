@@ -2,16 +2,17 @@
 //!
 //! System V gABI, Hash Table.
 
-ghost use Rattle.std.specs.Prelude.{ℕ, false, slice_index_or, ◌%◌, ◌==◌, ◌&&◌, ◌||◌, map, ◌≡◌, ◌≤◌, ◌<◌, ◌+◌, Some, None, slice_index, length, IfOk, MatchOption};
+ghost use Rattle.std.specs.Prelude.{◌≡◌, ◌≤◌, ◌+◌, Some, None, true, false, length, IfOk, MatchOption};
 ghost use Rattle.std.specs.List.{list_all};
 ghost use Rattle.answers.specs.Answers.{TellsBy};
 ghost use Rattle.byte_view.specs.Sound.{IsReadFrom};
 ghost use Rattle.load_model.specs.SymbolFlaws.{bad_sysv};
-ghost use Rattle.load_model.specs.SysvTable.{ends_in, is_in_chain, is_link, is_sysv_sound, sysv_lists, sysv_place};
-ghost use Rattle.sym_tables.specs.Faults.{flaw_of};
-ghost use Rattle.sym_tables.specs.FoundTables.{IsFoundSysv, IsSysvAt};
+ghost use Rattle.load_model.specs.SysvTable.{is_link, is_sysv_sound, sysv_lists, sysv_place};
+ghost use Rattle.sym_tables.specs.Faults.{symbol_fault_flaw};
+ghost use Rattle.sym_tables.specs.FoundTables.{IsFoundSysv, IsSysvAt, is_linked, words_table};
 ghost use Rattle.sym_tables.specs.Places.{IsSysvPlace, sysv_length, sysv_words};
 
+use crate::chains::Chains;
 use crate::faults::{SymFault, flawed};
 use crate::words::words;
 use byte_view::constants::DT_HASH;
@@ -19,21 +20,6 @@ use byte_view::flaws::HASH_RANGE;
 use elf_headers::{Elf, word};
 use std::alloc::{AllocError, Global};
 use std::marker::Model;
-
-/// The first symbol of each bucket, and for each symbol the next of its chain; 0 is no symbol.
-#[derive(Drop)]
-pub(crate) struct SysvTable {
-    buckets: Vec<u32>,
-    chains: Vec<u32>,
-}
-
-impl Model for SysvTable {
-    ghost use Rattle.load_model.specs.SysvTable.{SysvTable as Table};
-
-    ghost Value = { Table };
-
-    ghost view = { λ t. record { buckets = t.buckets.items; chains = t.chains.items } };
-}
 
 /// How many buckets and symbols a table has, and where it begins and ends in the file.
 #[derive(Clone, Copy)]
@@ -62,28 +48,6 @@ fn place(elf: &Elf, bytes: &[u8], addr: u64) -> Option<SysvPlace>
     })
 }
 
-/// The word at a place, or 0 where there is none.
-fn next_of(chains: &[u32], at: u32) -> u32
-    ensures { result ≡ slice_index chains.now at }
-{
-    chains.get(at as usize).copied().unwrap_or(0)
-}
-
-/// Does the chain from a symbol on end?
-#[tactic(auto, unfolding(load_model::specs::SysvTable::ends_in), using(crate::proofs::Chains::ends_here, crate::proofs::Chains::ends_after))]
-fn ends(chains: &[u32], first: u32) -> bool
-    ensures { result ≡ ends_in (length chains.now) chains.now first }
-{
-    let mut at = first;
-    for _step in 0..chains.len() {
-        if at == 0 {
-            return true;
-        }
-        at = next_of(chains, at);
-    }
-    at == 0
-}
-
 fn is_link(n: usize, word: u32) -> bool
     ensures { result ≡ is_link n word }
 {
@@ -96,25 +60,74 @@ fn all_links(n: usize, words: &[u32]) -> bool
     words.iter().all(|w| is_link(n, *w))
 }
 
-fn all_end(chains: &[u32], buckets: &[u32]) -> bool
-    ensures { result ≡ list_all (λ at. ends_in (length chains.now) chains.now at) buckets.now }
-{
-    buckets.iter().all(|w| ends(chains, *w))
+/// The words of a table: the first symbol of each bucket, and for each symbol the next of its chain; 0 is no symbol.
+#[derive(Drop)]
+struct SysvWords {
+    buckets: Vec<u32>,
+    chains: Vec<u32>,
 }
 
-impl SysvTable {
-    /// Does it have a bucket, words that name symbols, and chains that end?
-    #[tactic(auto, unfolding(load_model::specs::SysvTable::is_sysv_sound))]
-    fn is_sound(&self) -> bool
-        ensures { result ≡ is_sysv_sound self.now }
+impl SysvWords {
+    /// The words at a place.
+    fn read(alloc: Global, bytes: &[u8], place: &SysvPlace) -> Result<SysvWords, AllocError>
+        requires { place.now.from + sysv_length place.now ≤ length bytes.now }
+        ensures { IfOk result (λ w. words_table w ≡ sysv_words bytes.now place.now) }
+    {
+        let from = place.from as u64 + 8;
+        let buckets = words(alloc, bytes, from, u64::from(place.buckets))?;
+        let after = from + 4 * u64::from(place.buckets);
+        let chains = words(alloc, bytes, after, u64::from(place.symbols))?;
+        Ok(SysvWords { buckets, chains })
+    }
+
+    /// Whether there is a bucket, and each word names a symbol or none.
+    fn are_linked(&self) -> bool
+        ensures { result ≡ is_linked (words_table self.now) }
     {
         let symbols = self.chains.len();
         !self.buckets.is_empty()
             && all_links(symbols, &self.buckets)
             && all_links(symbols, &self.chains)
-            && all_end(&self.chains, &self.buckets)
     }
 
+    /// The table of these words, if it is sound: its chains end.
+    #[tactic(auto, using(crate::proofs::Linked::unlinked, crate::proofs::Linked::endless, crate::proofs::Linked::sound, crate::proofs::Linked::chains_linked, crate::proofs::Linked::buckets_linked))]
+    fn finish(self, alloc: Global) -> Result<Option<SysvTable>, AllocError>
+        ensures { IfOk result (λ found. MatchOption found (is_sysv_sound (words_table self) ≡ false) (λ t. (t ≡ words_table self) × (is_sysv_sound (words_table self) ≡ true))) }
+    {
+        if !self.are_linked() {
+            return Ok(None);
+        }
+        let mut chains = Chains::new(alloc, self.chains)?;
+        if !chains.measure_all(alloc, &self.buckets)? {
+            return Ok(None);
+        }
+        Ok(Some(SysvTable {
+            buckets: self.buckets,
+            chains,
+        }))
+    }
+}
+
+/// A table whose chains end.
+#[derive(Drop)]
+pub(crate) struct SysvTable {
+    buckets: Vec<u32>,
+    chains: Chains,
+}
+
+impl Model for SysvTable {
+    ghost use Rattle.load_model.specs.SysvTable.{SysvTable as Table};
+    ghost use Rattle.sym_tables.specs.Depths.{AreHeadsKnown};
+
+    ghost Value = { Table };
+
+    ghost view = { λ t. record { buckets = t.buckets.items; chains = t.chains.next.items } };
+
+    ghost invariant = { λ t. AreHeadsKnown t.chains t.buckets.items };
+}
+
+impl SysvTable {
     /// How many symbols the table has a chain word for.
     pub(crate) fn symbols(&self) -> usize
         ensures { result ≡ length self.now.chains }
@@ -122,90 +135,14 @@ impl SysvTable {
         self.chains.len()
     }
 
-    /// The words of the table at a place.
-    fn words_of(alloc: Global, bytes: &[u8], place: &SysvPlace) -> Result<SysvTable, AllocError>
-        requires { place.now.from + sysv_length place.now ≤ length bytes.now }
-        ensures { IfOk result (λ t. t ≡ sysv_words bytes.now place.now) }
-    {
-        let from = place.from as u64 + 8;
-        let buckets = words(alloc, bytes, from, u64::from(place.buckets))?;
-        let after = from + 4 * u64::from(place.buckets);
-        let chains = words(alloc, bytes, after, u64::from(place.symbols))?;
-        Ok(SysvTable { buckets, chains })
-    }
-
-    /// For each symbol, by the hash of its name: does the table list it?
-    ///
-    /// Each chain is followed once.
-    #[tactic(auto, unfolding(load_model::specs::SysvTable::sysv_lists), using(crate::proofs::Chains::number_of))]
-    pub(crate) fn listed(&self, alloc: Global, hashes: &[u32]) -> Result<Vec<bool>, AllocError>
+    /// Whether the table lists a symbol whose name has this hash.
+    #[tactic(auto, unfolding(load_model::specs::SysvTable::sysv_lists))]
+    pub(crate) fn lists(&self, hash: u32, symbol: usize) -> bool
         requires { 1 ≤ length self.now.buckets }
-        ensures room { IfOk result (λ listed. length listed.items ≡ length hashes.now) }
-        ensures marks { IfOk result (λ listed. (i : ℕ) → i < length hashes.now → slice_index_or listed.items i false ≡ sysv_lists self.now (slice_index hashes.now i) i) }
+        ensures { result ≡ sysv_lists self.now hash symbol }
     {
-        let numbers = bucket_numbers(alloc, hashes, self.buckets.len())?;
-        let mut listed = vec![in alloc; false; hashes.len()]?;
-        mark_all(&self.chains, &self.buckets, &numbers, &mut listed);
-        Ok(listed)
-    }
-}
-
-/// The number of the bucket of each symbol.
-fn bucket_numbers(alloc: Global, hashes: &[u32], buckets: usize) -> Result<Vec<usize>, AllocError>
-    requires { 1 ≤ buckets }
-    ensures { IfOk result (λ numbers. numbers.items ≡ map (λ hash. hash % buckets) hashes.now) }
-{
-    hashes
-        .iter()
-        .map(|hash| *hash as usize % buckets)
-        .collect(alloc)
-}
-
-/// Marks a symbol if it is of this bucket.
-#[tactic(auto, using(crate::proofs::Chains::mark_set, crate::proofs::Chains::mark_past, crate::proofs::Chains::mark_other))]
-fn mark(numbers: &[usize], bucket: usize, symbol: u32, listed: &mut [bool])
-    requires { length listed.old ≡ length numbers.now }
-    ensures room { length listed.new ≡ length numbers.now }
-    ensures marks { (i : ℕ) → i < length numbers.now → slice_index_or listed.new i false ≡ (slice_index_or listed.old i false || ((symbol == i) && (slice_index numbers.now i == bucket))) }
-{
-    match numbers.get(symbol as usize) {
-        Some(number) => {
-            if *number == bucket {
-                listed[symbol as usize] = true;
-            }
-        }
-        None => {}
-    }
-}
-
-/// Marks the symbols of a bucket that stand in its chain, the one from `first` on.
-#[tactic(auto, using(crate::proofs::Chains::marked_end, crate::proofs::Chains::marked_zero, crate::proofs::Chains::marked_step, crate::proofs::Chains::marked_first))]
-fn mark_chain(chains: &[u32], first: u32, numbers: &[usize], bucket: usize, listed: &mut [bool])
-    requires { length listed.old ≡ length numbers.now }
-    ensures room { length listed.new ≡ length numbers.now }
-    ensures marks { (i : ℕ) → i < length numbers.now → slice_index_or listed.new i false ≡ (slice_index_or listed.old i false || ((slice_index numbers.now i == bucket) && is_in_chain chains.now first i)) }
-{
-    let mut at = first;
-    for _step in 0..chains.len() {
-        if at == 0 {
-            return;
-        }
-        mark(numbers, bucket, at, listed);
-        at = next_of(chains, at);
-    }
-}
-
-/// Marks the symbols that stand in the chain of their bucket.
-#[tactic(auto, using(crate::proofs::Chains::below_none, crate::proofs::Chains::below_more, crate::proofs::Chains::below_all))]
-fn mark_all(chains: &[u32], buckets: &[u32], numbers: &[usize], listed: &mut [bool])
-    requires room { length listed.old ≡ length numbers.now }
-    requires bare { (i : ℕ) → i < length numbers.now → slice_index_or listed.old i false ≡ false }
-    requires buckets { (i : ℕ) → i < length numbers.now → slice_index numbers.now i < length buckets.now }
-    ensures room { length listed.new ≡ length numbers.now }
-    ensures marks { (i : ℕ) → i < length numbers.now → slice_index_or listed.new i false ≡ is_in_chain chains.now (slice_index buckets.now (slice_index numbers.now i)) i }
-{
-    for bucket in 0..buckets.len() {
-        mark_chain(chains, buckets[bucket], numbers, bucket, listed);
+        let bucket = hash as usize % self.buckets.len();
+        self.chains.stands(self.buckets[bucket], symbol)
     }
 }
 
@@ -221,22 +158,23 @@ impl FoundSysv {
     #[tactic(auto, using(crate::proofs::Placing::sysv_fits, crate::proofs::Placing::sysv_there))]
     fn read_at(alloc: Global, elf: &Elf, bytes: &[u8], addr: u64) -> Result<FoundSysv, SymFault>
         requires { IsReadFrom elf.now bytes.now }
-        ensures flaw { TellsBy flaw_of result (bad_sysv bytes.now elf.now (Some addr)) }
+        ensures flaw { TellsBy symbol_fault_flaw result (bad_sysv bytes.now elf.now (Some addr)) }
         ensures table { IfOk result (λ f. IsFoundSysv f bytes.now elf.now addr) }
     {
         let Some(place) = place(elf, bytes, addr) else {
             return Err(flawed(HASH_RANGE, DT_HASH));
         };
-        let Ok(table) = SysvTable::words_of(alloc, bytes, &place) else {
+        let Ok(words) = SysvWords::read(alloc, bytes, &place) else {
             return Err(SymFault::NoMemory);
         };
-        if !table.is_sound() {
-            return Err(flawed(HASH_RANGE, DT_HASH));
+        match words.finish(alloc) {
+            Ok(Some(table)) => Ok(FoundSysv {
+                table,
+                range: (place.from, place.to),
+            }),
+            Ok(None) => Err(flawed(HASH_RANGE, DT_HASH)),
+            Err(_) => Err(SymFault::NoMemory),
         }
-        Ok(FoundSysv {
-            table,
-            range: (place.from, place.to),
-        })
     }
 
     /// The table at an address, if the file has one.
@@ -247,7 +185,7 @@ impl FoundSysv {
         at: Option<u64>,
     ) -> Result<Option<FoundSysv>, SymFault>
         requires { IsReadFrom elf.now bytes.now }
-        ensures flaw { TellsBy flaw_of result (bad_sysv bytes.now elf.now at) }
+        ensures flaw { TellsBy symbol_fault_flaw result (bad_sysv bytes.now elf.now at) }
         ensures table { IfOk result (λ found. IsSysvAt found bytes.now elf.now at) }
     {
         match at {

@@ -6,10 +6,10 @@ ghost use Rattle.byte_view.specs.Dynamic.{strings_size};
 ghost use Rattle.byte_view.specs.Sound.{IsReadFrom};
 ghost use Rattle.dyn_table.specs.Table.{IsTableOf};
 ghost use Rattle.load_model.specs.SymbolFlaws.{count_by, count_flaw, symbol_flaw, symbol_flaw_by};
-ghost use Rattle.sym_tables.specs.Faults.{flaw_of};
+ghost use Rattle.sym_tables.specs.Faults.{symbol_fault_flaw};
 ghost use Rattle.sym_tables.specs.FoundTables.{HasBucket};
 ghost use Rattle.sym_tables.specs.Listing.{file_strings, gnu_of, lists_flaw, sysv_of};
-ghost use Rattle.sym_tables.specs.ReadSymbols.{AreSymsBy, AreTablesOf, IsSymsOf};
+ghost use Rattle.sym_tables.specs.ReadSymbols.{AreSymsBy, AreHashTablesOf, IsSymsOf};
 
 use crate::count::{check_count, section_count};
 use crate::faults::SymFault;
@@ -54,7 +54,7 @@ impl Syms {
     pub fn read(alloc: Global, elf: &Elf, table: &Dyn, bytes: &[u8]) -> Result<Syms, SymFault>
         requires elf { IsReadFrom elf.now bytes.now }
         requires table { IsTableOf table.now bytes.now }
-        ensures flaw { TellsBy flaw_of result (symbol_flaw bytes.now) }
+        ensures flaw { TellsBy symbol_fault_flaw result (symbol_flaw bytes.now) }
         ensures table { IfOk result (λ s. IsSymsOf s bytes.now) }
     {
         Syms::read_by(alloc, elf, table, bytes)
@@ -94,7 +94,7 @@ impl Syms {
     fn read_by(alloc: Global, elf: &Elf, table: &Dyn, bytes: &[u8]) -> Result<Syms, SymFault>
         requires elf { IsReadFrom elf.now bytes.now }
         requires table { IsTableOf table.now bytes.now }
-        ensures flaw { TellsBy flaw_of result (symbol_flaw_by bytes.now elf.now table.now.entries) }
+        ensures flaw { TellsBy symbol_fault_flaw result (symbol_flaw_by bytes.now elf.now table.now.entries) }
         ensures table { IfOk result (λ s. AreSymsBy s bytes.now elf.now table.now.entries) }
     {
         let entries = table.entries();
@@ -102,7 +102,7 @@ impl Syms {
         let tables = Tables::read(alloc, elf, bytes, entries)?;
         let count = count_of(elf, bytes, entries, &tables)?;
         let symbols = read_symbols(alloc, elf, bytes, symbols_at(entries), count)?;
-        check_list(alloc, table, bytes, &tables, &symbols)?;
+        check_list(table, bytes, &tables, &symbols)?;
         Ok(Syms {
             symbols,
             hash: tables.hash_range(),
@@ -115,8 +115,8 @@ impl Syms {
 #[tactic(auto, using(crate::proofs::RawSymbols::header_there, crate::proofs::Whole::counts_are, crate::proofs::Whole::count_is))]
 fn count_of(elf: &Elf, bytes: &[u8], entries: &[Entry], tables: &Tables) -> Result<u64, SymFault>
     requires elf { IsReadFrom elf.now bytes.now }
-    requires tables { AreTablesOf tables.now bytes.now elf.now entries.now }
-    ensures flaw { TellsBy flaw_of result (count_flaw bytes.now elf.now entries.now) }
+    requires tables { AreHashTablesOf tables.now bytes.now elf.now entries.now }
+    ensures flaw { TellsBy symbol_fault_flaw result (count_flaw bytes.now elf.now entries.now) }
     ensures count { IfOk result (λ count. count ≡ count_by bytes.now elf.now entries.now) }
 {
     let section = section_count(bytes, entries);
@@ -126,7 +126,6 @@ fn count_of(elf: &Elf, bytes: &[u8], entries: &[Entry], tables: &Tables) -> Resu
 /// Are the names of the symbols in the string table, and do the hash tables list those that other objects may bind to?
 #[tactic(auto, unfolding(crate::specs::Listing::lists_flaw))]
 fn check_list(
-    alloc: Global,
     table: &Dyn,
     bytes: &[u8],
     tables: &Tables,
@@ -134,9 +133,9 @@ fn check_list(
 ) -> Result<(), SymFault>
     requires table { IsTableOf table.now bytes.now }
     requires sound { HasBucket tables.now.sysv }
-    ensures { TellsBy flaw_of result (lists_flaw (strings_size table.now.entries) (sysv_of tables.now.sysv) (gnu_of tables.now.gnu) (file_strings bytes.now) symbols.now) }
+    ensures { TellsBy symbol_fault_flaw result (lists_flaw (strings_size table.now.entries) (sysv_of tables.now.sysv) (gnu_of tables.now.gnu) (file_strings bytes.now) symbols.now) }
 {
     let size = strings_size(table.entries());
     check_names(size, symbols)?;
-    check_listed(alloc, &tables.sysv, &tables.gnu, table, bytes, symbols)
+    check_listed(tables, table, bytes, symbols)
 }

@@ -5,8 +5,8 @@ ghost use Rattle.std.specs.Option.{option_and_then, option_map};
 ghost use Rattle.answers.specs.Answers.{TellsBy};
 ghost use Rattle.byte_view.specs.Sound.{IsReadFrom};
 ghost use Rattle.load_model.specs.SymbolFlaws.{hash_flaw};
-ghost use Rattle.sym_tables.specs.Faults.{flaw_of};
-ghost use Rattle.sym_tables.specs.ReadSymbols.{AreTablesOf};
+ghost use Rattle.sym_tables.specs.Faults.{symbol_fault_flaw};
+ghost use Rattle.sym_tables.specs.ReadSymbols.{AreHashTablesOf};
 
 use crate::faults::SymFault;
 use crate::gnu::FoundGnu;
@@ -34,8 +34,8 @@ impl Tables {
         entries: &[Entry],
     ) -> Result<Tables, SymFault>
         requires { IsReadFrom elf.now bytes.now }
-        ensures flaw { TellsBy flaw_of result (hash_flaw bytes.now elf.now entries.now) }
-        ensures tables { IfOk result (λ t. AreTablesOf t bytes.now elf.now entries.now) }
+        ensures flaw { TellsBy symbol_fault_flaw result (hash_flaw bytes.now elf.now entries.now) }
+        ensures tables { IfOk result (λ t. AreHashTablesOf t bytes.now elf.now entries.now) }
     {
         let sysv = FoundSysv::read(alloc, elf, bytes, value_of(DT_HASH, entries))?;
         let gnu = FoundGnu::read(alloc, elf, bytes, value_of(DT_GNU_HASH, entries))?;

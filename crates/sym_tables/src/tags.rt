@@ -4,7 +4,7 @@ ghost use Rattle.std.specs.Prelude.{◌≡◌};
 ghost use Rattle.answers.specs.Answers.{TellsBy};
 ghost use Rattle.load_model.specs.SymbolFlaws.{wrong_symbol_size};
 ghost use Rattle.load_model.specs.SymbolTable.{symbols_at};
-ghost use Rattle.sym_tables.specs.Faults.{flaw_of};
+ghost use Rattle.sym_tables.specs.Faults.{symbol_fault_flaw};
 
 use crate::faults::{SymFault, flawed};
 use byte_view::Entry;
@@ -21,7 +21,7 @@ pub(crate) fn symbols_at(entries: &[Entry]) -> u64
 
 /// Is the size of a symbol the one that is read?
 pub(crate) fn check_symbol_size(entries: &[Entry]) -> Result<(), SymFault>
-    ensures { TellsBy flaw_of result (wrong_symbol_size entries.now) }
+    ensures { TellsBy symbol_fault_flaw result (wrong_symbol_size entries.now) }
 {
     let size = value_of(DT_SYMENT, entries).unwrap_or(0);
     if size != SYM_SIZE {
