@@ -17,8 +17,8 @@ use Rattle.sym_tables.specs.FileWords.{words_at}
 use Rattle.sym_tables.specs.FoundTables.{front_table}
 use Rattle.sym_tables.specs.Places.{HasNoReach, IsFrontOf, IsReachOf}
 use Rattle.sym_tables.specs.Runs.{AreStarts, IsUsable}
-use Rattle.sym_tables.specs.declared.gnu.Front.{Front}
-use Rattle.sym_tables.specs.declared.gnu.Reach.{Reach}
+use Rattle.sym_tables.specs.declared.gnu_front.Front.{Front}
+use Rattle.sym_tables.specs.declared.gnu_reach.Reach.{Reach}
 use Rattle.sym_tables.proofs.Backing.{none_longer, range_there, words_there}
 use Rattle.byte_view.specs.declared.flaws.TheConstants.{HASH_RANGE}
 

@@ -10,8 +10,8 @@ use Rattle.load_model.specs.SysvTable.{nbucket, nchain, sysv_place, sysv_size, s
 use Rattle.load_model.specs.TableWords.{words_in}
 use Rattle.sym_tables.specs.FileWords.{words_at}
 use Rattle.sym_tables.specs.Places.{AreFrontParts, IsFrontOf, IsGnuHeader, IsSysvPlace, sysv_length, sysv_words}
-use Rattle.sym_tables.specs.declared.gnu.Front.{Front}
-use Rattle.sym_tables.specs.declared.gnu.GnuHeader.{GnuHeader}
+use Rattle.sym_tables.specs.declared.gnu_front.Front.{Front}
+use Rattle.sym_tables.specs.declared.gnu_front.GnuHeader.{GnuHeader}
 use Rattle.sym_tables.specs.declared.sysv.SysvPlace.{SysvPlace}
 use Rattle.sym_tables.proofs.Backing.{none_longer, range_there, word_there, words_there}
 

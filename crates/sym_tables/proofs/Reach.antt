@@ -12,7 +12,7 @@ use Rattle.byte_view.proofs.Ranges.{IsRead}
 use Rattle.load_model.specs.GnuTable.{chain_word, chains_from, gnu_buckets, gnu_place, gnu_reach, greatest, has_end, is_last, last_from, symoffset}
 use Rattle.load_model.specs.TableWords.{word_in}
 use Rattle.sym_tables.specs.Places.{HasNoReach, IsFrontOf, IsReachOf}
-use Rattle.sym_tables.specs.declared.gnu.Front.{Front}
+use Rattle.sym_tables.specs.declared.gnu_front.Front.{Front}
 use Rattle.sym_tables.proofs.Backing.{none_longer, range_there, word_there}
 
 -- more than the file has is not backed

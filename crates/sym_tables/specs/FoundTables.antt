@@ -7,7 +7,7 @@ use Rattle.std.specs.List.{list_all}
 use Rattle.sym_tables.specs.declared.sysv.FoundSysv.{FoundSysv}
 use Rattle.sym_tables.specs.declared.sysv.SysvWords.{SysvWords}
 use Rattle.sym_tables.specs.declared.gnu.FoundGnu.{FoundGnu}
-use Rattle.sym_tables.specs.declared.gnu.Front.{Front}
+use Rattle.sym_tables.specs.declared.gnu_front.Front.{Front}
 
 -- the table with these parts and these chain words
 abbrev pub front_table : Front → List ℕ → GnuTable

@@ -7,3 +7,4 @@ pub mod Counts
 pub mod Listing
 pub mod ReadSymbols
 pub mod Depths
+pub mod LeastEnds

@@ -5,9 +5,9 @@ use Rattle.byte_view.specs.declared.segments.Segment.{Segment}
 use Rattle.load_model.specs.GnuTable.{bloom_shift, bloom_size, bloom_words, chains_from, gnu_buckets, gnu_place, gnu_reach, has_end, nbuckets, symoffset, words_below}
 use Rattle.load_model.specs.SysvTable.{SysvTable, nbucket, nchain, sysv_place}
 use Rattle.sym_tables.specs.FileWords.{words_at}
-use Rattle.sym_tables.specs.declared.gnu.Front.{Front}
-use Rattle.sym_tables.specs.declared.gnu.GnuHeader.{GnuHeader}
-use Rattle.sym_tables.specs.declared.gnu.Reach.{Reach}
+use Rattle.sym_tables.specs.declared.gnu_front.Front.{Front}
+use Rattle.sym_tables.specs.declared.gnu_front.GnuHeader.{GnuHeader}
+use Rattle.sym_tables.specs.declared.gnu_reach.Reach.{Reach}
 use Rattle.sym_tables.specs.declared.sysv.SysvPlace.{SysvPlace}
 
 pub record IsSysvPlace (p : SysvPlace) (file : List ℕ) (segments : List Segment) (addr : ℕ) : Type 0 where

@@ -1,15 +1,17 @@
 //! Laws of symbols and hash tables, each the contract of a function that does nothing.
 
-ghost use Rattle.std.specs.Prelude.{◌≡◌, ◌≤◌, ◌↔◌, ◌==◌, ℕ, List, [], Some, None, codes, length, slice_get, true};
+ghost use Rattle.std.specs.Prelude.{◌≡◌, ◌≢◌, ◌≤◌, ◌+◌, ◌↔◌, ◌==◌, ℕ, List, [], Some, None, codes, length, slice_get, true};
 ghost use Rattle.std.specs.List.{list_any};
 ghost use Rattle.byte_view.specs.Dynamic.{dynamic_entries};
 ghost use Rattle.byte_view.specs.Headers.{headers};
+ghost use Rattle.byte_view.specs.declared.segments.Segment.{Segment};
 ghost use Rattle.load_model.specs.Hashes.{gnu_hash, sysv_hash};
 ghost use Rattle.load_model.specs.SymbolCount.{reach_count};
-ghost use Rattle.load_model.specs.SymbolFlaws.{gnu_in, is_offerable, name_in, symbol_count, symbol_flaw, symbols_of, sysv_in};
+ghost use Rattle.load_model.specs.SymbolFlaws.{bad_gnu, gnu_in, is_offerable, name_in, symbol_count, symbol_flaw, symbols_of, sysv_in};
 ghost use Rattle.load_model.specs.SysvTable.{IsChain, SysvTable, ends_in, is_in_chain, sysv_lists};
-ghost use Rattle.load_model.specs.GnuTable.{GnuTable, gnu_lists};
+ghost use Rattle.load_model.specs.GnuTable.{GnuTable, gnu_buckets, gnu_lists, gnu_reach, greatest};
 ghost use Rattle.load_model.specs.declared.symbols.RawSym.{RawSym};
+ghost use Rattle.sym_tables.specs.LeastEnds.{IsLeastEnd};
 ghost use Rattle.sym_tables.specs.Listing.{file_strings};
 
 /// Six values of the hash functions.
@@ -27,6 +29,23 @@ pub fn reach_within_symbols()
     ensures { (file : List ℕ) (reach : ℕ) → symbol_flaw file ≡ None
         → reach_count file (headers file) (dynamic_entries file) ≡ Some reach
         → reach ≤ symbol_count file }
+{}
+
+/// In a GNU hash table without a flaw the reach is one more than the least index, from the greatest bucket on, whose chain
+/// word is odd, and there is one; where all buckets are 0 there is no reach.
+pub fn reach_is_least()
+    ensures none { (file : List ℕ) (segments : List Segment) (addr : ℕ)
+        → greatest (gnu_buckets file segments addr) ≡ 0
+        → gnu_reach file segments addr ≡ None }
+    ensures there { (file : List ℕ) (segments : List Segment) (addr : ℕ)
+        → bad_gnu file segments (Some addr) ≡ None
+        → greatest (gnu_buckets file segments addr) ≢ 0
+        → (last : ℕ) × (gnu_reach file segments addr ≡ Some (last + 1)) }
+    ensures least { (file : List ℕ) (segments : List Segment) (addr last : ℕ)
+        → bad_gnu file segments (Some addr) ≡ None
+        → greatest (gnu_buckets file segments addr) ≢ 0
+        → (gnu_reach file segments addr ≡ Some (last + 1))
+            ↔ IsLeastEnd file segments addr (greatest (gnu_buckets file segments addr)) last }
 {}
 
 /// In a file without these flaws each symbol that other objects may bind to is listed by each hash table that is there, in

@@ -1,6 +1,6 @@
 -- one place more
 use Rattle.sym_tables.proofs.Runs.{starts_more, starts_none}
-use Rattle.sym_tables.proofs.gnu.starts_of.Goals as goal
+use Rattle.sym_tables.proofs.gnu_table.starts_of.Goals as goal
 
 pub loop-k-init : goal.loop-k-init
 loop-k-init c = rw c.new-starts.ensures.items (starts_none c.args.words.now)

@@ -1,7 +1,7 @@
 -- `low` words are backed, `high` are not
 use Rattle.std.proofs.Common.{◌≡◌, ◌+◌, ◌-◌, ◌*◌, ◌<◌, ◌≤◌, true, false, is_some, length}
 use Rattle.byte_view.specs.Memory.{range_in}
-use Rattle.sym_tables.proofs.gnu.backed_words.Given as goal
+use Rattle.sym_tables.proofs.gnu_reach.backed_words.Given as goal
 
 abbrev pub invariant-halve : goal.invariant-halve
 invariant-halve l =

@@ -1,7 +1,7 @@
 -- the parts that were read are those of the table
 use Rattle.std.proofs.Common.{sym, ◌∙◌}
 use Rattle.sym_tables.proofs.Placing.{front_there}
-use Rattle.sym_tables.proofs.gnu.Front.read.Goals as goal
+use Rattle.sym_tables.proofs.gnu_front.Front.read.Goals as goal
 
 pub returns-in-Ok : goal.returns-in-Ok
 returns-in-Ok c =

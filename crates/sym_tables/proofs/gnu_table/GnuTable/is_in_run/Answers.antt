@@ -1,7 +1,7 @@
 -- where the chain of the symbol's word begins
 use Rattle.std.proofs.Common.{sym}
 use Rattle.sym_tables.proofs.Runs.{run_is}
-use Rattle.sym_tables.proofs.gnu.GnuTable.is_in_run.Goals as goal
+use Rattle.sym_tables.proofs.gnu_table.GnuTable.is_in_run.Goals as goal
 
 pub returns : goal.returns
 returns c =

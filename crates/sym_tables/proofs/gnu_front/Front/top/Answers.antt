@@ -3,7 +3,7 @@ use Rattle.std.proofs.Common.{ap, ◌∙◌}
 use Rattle.load_model.specs.GnuTable.{greatest}
 use Rattle.sym_tables.proofs.GnuParts.{sound_buckets}
 use Rattle.sym_tables.proofs.Reach.{top_above}
-use Rattle.sym_tables.proofs.gnu.Front.top.Goals as goal
+use Rattle.sym_tables.proofs.gnu_front.Front.top.Goals as goal
 
 pub returns-clause-chain : goal.returns-clause-chain
 returns-clause-chain c = λ h.
