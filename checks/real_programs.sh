@@ -8,8 +8,9 @@ hosts='ld-linux-x86-64.so.2 libc.so.6 libm.so.6 libdl.so.2 libpthread.so.0 librt
 # a library of a listed directory that only this check has
 listed=/usr/local/lib/libappdir-check.so.1
 work=$(mktemp -d) || exit 1
-made=
-trap 'rm -rf "$work" $made' EXIT
+made=''
+mounted=''
+trap '[ -z "$mounted" ] || umount "$mounted"; rm -rf "$work" $made' EXIT
 passed=0 failed=0 skipped=0
 
 pass() { passed=$((passed + 1)); echo "ok: $1"; }
@@ -30,16 +31,38 @@ are_expected() {
     done
 }
 
-# refuses WHAT LINE WORD ..: the call prints this line and ends with status 1.
+# refuses WHAT LINE WORD ..: the call prints this line, and nothing on standard error, and ends with status 1.
 refuses() {
     local what=$1 line=$2 said status
     shift 2
-    said=$("$appdir" "$@" 2>/dev/null)
+    said=$("$appdir" "$@" 2>"$work/errors")
     status=$?
-    if [ "$said" = "$line" ] && [ "$status" = 1 ]; then
+    if [ "$said" = "$line" ] && [ ! -s "$work/errors" ] && [ "$status" = 1 ]; then
         pass "$what: $said"
     else
-        fail "$what: '$said' with status $status, and not '$line' with status 1"
+        fail "$what: '$said', '$(cat "$work/errors")' with status $status, and not '$line' with status 1"
+    fi
+}
+
+# fails_to WHAT NAME STATUS WORD ..: the call prints nothing, says this name on standard error, and ends with this status.
+fails_to() {
+    local what=$1 name=$2 number=$3 said status
+    shift 3
+    said=$("$@" 2>"$work/errors")
+    status=$?
+    if [ -z "$said" ] && [ "$(cat "$work/errors")" = "appdir: $name" ] && [ "$status" = "$number" ]; then
+        pass "$what: $name"
+    else
+        fail "$what: '$said', '$(cat "$work/errors")' with status $status, and not 'appdir: $name' with status $number"
+    fi
+}
+
+# holds_no_file WHAT FOLDER: no file stands in the folder, whole or not.
+holds_no_file() {
+    if [ -z "$(find "$2" ! -type d)" ]; then
+        pass "$1: no file was left"
+    else
+        fail "$1: left $(find "$2" ! -type d)"
     fi
 }
 
@@ -72,6 +95,9 @@ done
 packed=$passed
 
 refuses 'a missing file' "refused 10: no program at $work/none" quick "$work/none" "$work/out"
+
+long=$(printf 'a%.0s' {1..300})
+refuses 'a part of 300 bytes' "refused 10: no program at $work/$long" quick "$work/$long" "$work/out"
 
 printf '#!/bin/sh\necho hello\n' >"$work/script"
 refuses 'a script' "refused 11: damaged $work/script: NotElf" quick "$work/script" "$work/out"
@@ -118,7 +144,10 @@ else
     skip 'no library can be put into a listed directory here'
 fi
 
-[ -e "$work/out" ] && fail 'a refused call made its folder'
+ln -s circle "$work/circle"
+fails_to 'links in a circle' ReadFailed 3 "$appdir" quick "$work/circle" "$work/out"
+
+[ -e "$work/out" ] && fail 'a call that was refused or could not read made its folder'
 
 if [ -x /usr/bin/true ]; then
     mkdir "$work/full"
@@ -131,6 +160,49 @@ if [ -x /usr/bin/true ]; then
     fi
 else
     skip 'there is no /usr/bin/true to pack into a folder with a file'
+fi
+
+# Bits by the umask: each that may read AppRun may run it.
+if [ -x /usr/bin/true ]; then
+    program=$(realpath /usr/bin/true)
+    for rights in 022:755 077:700; do
+        out=$work/rights${rights%:*}
+        (umask "${rights%:*}" && "$appdir" quick "$program" "$out" >"$work/said" 2>&1)
+        if [ "$(stat -c %a "$out/AppRun")" = "${rights#*:}" ]; then
+            pass "umask ${rights%:*}: AppRun is ${rights#*:}"
+        else
+            fail "umask ${rights%:*}: AppRun is not ${rights#*:}"
+        fi
+    done
+fi
+
+# Faults of the folder and of standard output.
+if [ -x /usr/bin/true ] && [ "$(stat -L -c %s /usr/bin/true)" -gt 8192 ]; then
+    program=$(realpath /usr/bin/true)
+    # a disk that takes no more than a part of the program
+    small=$work/small
+    mkdir "$small"
+    if mount -t tmpfs -o size=16k none "$small" 2>/dev/null; then
+        mounted=$small
+        fails_to 'a full disk' WriteFailed 4 "$appdir" quick "$program" "$small/out"
+        holds_no_file 'a full disk' "$small"
+        umount "$small"
+        mounted=
+    else
+        skip 'no small file system can be mounted here'
+    fi
+    # a limit of the size of a file, in blocks of 1,024 bytes
+    fails_to 'a limit of size' WriteFailed 4 bash -c 'trap "" XFSZ; ulimit -f 8; exec "$@"' - "$appdir" quick "$program" "$work/limited"
+    holds_no_file 'a limit of size' "$work/limited"
+    fails_to 'a file in the place of the folder' WriteFailed 4 "$appdir" quick "$program" "$work/script"
+    if [ -w /dev/full ]; then
+        # shellcheck disable=SC2016
+        fails_to 'an output that takes nothing' PrintFailed 6 bash -c 'exec "$@" >/dev/full' - "$appdir" quick "$program" "$work/unsaid"
+    else
+        skip 'there is no /dev/full'
+    fi
+else
+    skip 'there is no /usr/bin/true to fail with'
 fi
 
 echo "real programs: $packed packed, $passed checks passed, $failed failed, $skipped skipped"

@@ -37,7 +37,9 @@ fn run(rt: &HostRuntime) -> Status {
     let mut tree = RealTree::new(rt);
     let mut out = RealOut::new(rt);
     let mut sink = RealSink::new(rt);
-    appdir_main(rt.alloc(), words.as_slice(), &mut tree, &mut out, &mut sink)
+    let status = appdir_main(rt.alloc(), words.as_slice(), &mut tree, &mut out, &mut sink);
+    out.give_up();
+    status
 }
 
 /// The words after the program's name. Words that are not UTF-8 make no command, and stand for no words at all.

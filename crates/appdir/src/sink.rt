@@ -1,4 +1,4 @@
-ghost use Rattle.std.specs.Prelude.{◌≡◌};
+ghost use Rattle.std.specs.Prelude.{◌≡◌, ◌≤◌};
 
 use crate::counting::counted;
 use ports::{Failed, Sink};
@@ -30,17 +30,13 @@ impl<R: Print + Drop> RealSink<R> {
 }
 
 impl<R: Print + Drop> Sink for RealSink<R> {
-    ghost use Rattle.std.specs.Prelude.{None};
-    ghost use Rattle.answers.specs.Faults.{HasCause};
-    ghost use Rattle.appdir.specs.Counting.{CountsErrors};
+    ghost use Rattle.appdir.specs.Counting.{CountsErrors, counts};
 
-    ghost taken = { λ _. None };
-
-    ghost faults = { λ sink. sink.faults };
+    ghost seen = { λ sink. counts sink.faults };
 
     fn put(&mut self, bytes: &[u8]) -> Result<(), Failed>
         ensures count { CountsErrors self.old.faults self.new.faults result }
-        ensures cause { HasCause self.old.faults self.new.faults result }
+        ensures never_falls { self.old.faults ≤ self.new.faults }
     {
         let outcome = self.write(bytes);
         counted(outcome, &mut self.faults)

@@ -1,3 +1,5 @@
+//! The files of this machine that are read.
+
 ghost use Rattle.std.specs.Prelude.{◌≡◌, ◌<◌, ◌≤◌, ◌↔◌, ◌⊎◌, length, IsTrue, IfOk};
 
 use crate::counting::counted;
@@ -5,21 +7,28 @@ use load_model::Name;
 use path_text::Abs;
 use ports::{Failed, Found, ProbeStop, Tree};
 use std::alloc::Global;
+use std::fs::OpenFile;
 use std::io::{ErrorKind, Read, Seek, SeekFrom};
 use std::rt::Files;
 use std::{fs, io};
 
+// how often a read is tried that signals interrupt
+const TRIES: u32 = 1000;
+
 /// The files of this machine.
 ///
-/// Links are followed. Only a regular file is a file: a folder, a device, a pipe and a socket are absent, since a
-/// loader maps none of them, and a read of a pipe may wait for ever. The identity of a file is the text of its path
-/// without links; a path that is not UTF-8 there is a fault.
+/// Links are followed. Only a regular file is a file: a folder, a device, a pipe and a socket are
+/// absent, since a loader maps none of them, and a read of a pipe may wait for ever. The identity
+/// of a file is the text of its path without links; a path that is not UTF-8 there is a fault.
+///
+/// The length is that of the file that was opened. Where it has another one later, a read is a
+/// fault.
 ///
 /// It tells nothing but its count of faults, to which each error adds one.
 #[derive(Drop)]
 pub struct RealTree<R: Files + AllocGlobal + Drop> {
     rt: R,
-    reading: Option<OpenFile<R::File>>,
+    reading: Option<Reading<R::File>>,
     faults: u64,
 }
 
@@ -34,18 +43,22 @@ impl<R: Files + AllocGlobal + Drop> RealTree<R> {
         }
     }
 
-    /// What is at the path, where the system has an answer.
-    fn look(&self, alloc: Global, path: &str) -> io::Result<Found> {
-        let metadata = fs::metadata(&self.rt, path)?;
-        if !metadata.is_file() {
+    /// What is at the path, where the system has an answer. A file is kept open for the reads.
+    fn look(&mut self, alloc: Global, path: &str) -> io::Result<Found>
+        ensures faults { self.new.faults ≡ self.old.faults }
+    {
+        self.reading = None;
+        if !is_file(&self.rt, path)? {
             return Ok(Found::Absent);
         }
+        let reading = Reading::open(&self.rt, path)?;
+        let len = reading.len;
         let real = self.rt.canonicalize(alloc, path)?;
         match Name::from_bytes(alloc, real.as_str().as_bytes()) {
-            Ok(id) => Ok(Found::File {
-                id,
-                len: metadata.len(),
-            }),
+            Ok(id) => {
+                self.reading = Some(reading);
+                Ok(Found::File { id, len })
+            }
             Err(_) => Err(io::Error::from(ErrorKind::OutOfMemory)),
         }
     }
@@ -59,7 +72,7 @@ impl<R: Files + AllocGlobal + Drop> RealTree<R> {
         let last = self.reading.take();
         let mut reading = match last.filter(|reading| reading.path.as_str() == path) {
             Some(reading) => reading,
-            None => OpenFile::open(&self.rt, path)?,
+            None => Reading::open(&self.rt, path)?,
         };
         let n = reading.read_at(at, buf)?;
         self.reading = Some(reading);
@@ -68,24 +81,21 @@ impl<R: Files + AllocGlobal + Drop> RealTree<R> {
 }
 
 impl<R: Files + AllocGlobal + Drop> Tree for RealTree<R> {
-    ghost use Rattle.std.specs.Prelude.{None};
-    ghost use Rattle.answers.specs.Faults.{HasCause, Rose};
-    ghost use Rattle.appdir.specs.Counting.{CountsErrors};
+    ghost use Rattle.std.proofs.Common.{rules};
+    ghost use Rattle.answers.specs.Faults.{Rose};
+    ghost use Rattle.appdir.specs.Counting.{CountsErrors, counts};
 
-    ghost told = { λ _. None };
+    ghost seen = { λ tree. counts tree.faults };
 
-    ghost faults = { λ tree. tree.faults };
+    ghost tells_world = { Prim.search rules };
 
     fn probe(&mut self, alloc: Global, path: &Abs) -> Result<Found, ProbeStop>
         ensures count { CountsErrors self.old.faults self.new.faults result }
         ensures failed { result ≡ Err ProbeStop.Failed → Rose self.old.faults self.new.faults }
         ensures never_falls { self.old.faults ≤ self.new.faults }
     {
-        // what is read after this probe is the file that it saw
-        self.reading = None;
         match self.look(alloc, path.as_str()) {
             Ok(found) => Ok(found),
-            Err(error) if is_absence(error.kind()) => Ok(Found::Absent),
             Err(error) => {
                 self.faults = self.faults.saturating_add(1);
                 Err(stop_of(error.kind()))
@@ -97,19 +107,32 @@ impl<R: Files + AllocGlobal + Drop> Tree for RealTree<R> {
         ensures some { IfOk result (λ n. 0 < n) }
         ensures fits { IfOk result (λ n. n ≤ length buf.old) }
         ensures count { CountsErrors self.old.faults self.new.faults result }
-        ensures cause { HasCause self.old.faults self.new.faults result }
+        ensures never_falls { self.old.faults ≤ self.new.faults }
     {
         let outcome = self.read_piece(path.as_str(), at, buf);
         counted(outcome, &mut self.faults)
     }
 }
 
-/// Nothing is at a path where its last part or a folder on the way is missing, or where a file stands in the place of
-/// such a folder.
+/// Whether a regular file is at the path, links followed.
+fn is_file(files: &impl Files, path: &str) -> io::Result<bool> {
+    match fs::metadata(files, path) {
+        Ok(metadata) => Ok(metadata.is_file()),
+        Err(error) if is_absence(error.kind()) => Ok(false),
+        Err(error) => Err(error),
+    }
+}
+
+/// Whether nothing is at a path for which the system answers so: its last part or a folder on the
+/// way is missing, a file stands in the place of such a folder, or the path or a part of it is
+/// longer than the system allows.
 fn is_absence(kind: ErrorKind) -> bool
-    ensures { IsTrue result ↔ ((kind ≡ ErrorKind.NotFound) ⊎ (kind ≡ ErrorKind.NotADirectory)) }
+    ensures { IsTrue result ↔ ((kind ≡ ErrorKind.NotFound)
+        ⊎ ((kind ≡ ErrorKind.NotADirectory) ⊎ (kind ≡ ErrorKind.InvalidFilename))) }
 {
-    kind == ErrorKind::NotFound || kind == ErrorKind::NotADirectory
+    kind == ErrorKind::NotFound
+        || kind == ErrorKind::NotADirectory
+        || kind == ErrorKind::InvalidFilename
 }
 
 fn stop_of(kind: ErrorKind) -> ProbeStop
@@ -122,42 +145,64 @@ fn stop_of(kind: ErrorKind) -> ProbeStop
     }
 }
 
-/// The file that was read last.
+/// The file that was opened last.
 #[derive(Drop)]
-struct OpenFile<F> {
+struct Reading<F> {
     path: String,
     file: F,
+    len: u64,
     // where the next read begins
     place: u64,
 }
 
-impl<F: Read + Seek> OpenFile<F> {
-    fn open<R: Files<File = F> + AllocGlobal>(rt: &R, path: &str) -> io::Result<OpenFile<F>>
+impl<F: Read + Seek + OpenFile> Reading<F> {
+    fn open<R: Files<File = F> + AllocGlobal>(rt: &R, path: &str) -> io::Result<Reading<F>>
     where
         F: Drop,
     {
-        Ok(OpenFile {
-            path: String::from_str(rt.alloc(), path)?,
-            file: fs::open(rt, path)?,
+        let path_text = String::from_str(rt.alloc(), path)?;
+        let file = fs::open(rt, path)?;
+        let len = file.metadata()?.len();
+        Ok(Reading {
+            path: path_text,
+            file,
+            len,
             place: 0,
         })
     }
 
-    /// Reads bytes from `at` on. A read that gives nothing is an error.
+    /// Reads bytes from `at` on. A read that gives nothing is an error, and so is another length
+    /// than the file had when it was opened.
     fn read_at(&mut self, at: u64, buf: &mut [u8]) -> io::Result<usize>
         ensures some { IfOk result (λ n. 0 < n) }
         ensures fits { IfOk result (λ n. n ≤ length buf.old) }
     {
+        if self.file.metadata()?.len() != self.len {
+            return Err(io::Error::from(ErrorKind::InvalidData));
+        }
         if self.place != at {
             self.place = self.file.seek(SeekFrom::Start(at))?;
         }
-        let n = self.file.read(buf)?;
+        let n = read_some(&mut self.file, buf)?;
         if n == 0 {
             return Err(io::Error::from(ErrorKind::UnexpectedEof));
         }
         self.place = at.saturating_add(n as u64);
         Ok(n)
     }
+}
+
+/// One read, which is tried again where a signal interrupts it.
+fn read_some<F: Read>(file: &mut F, buf: &mut [u8]) -> io::Result<usize>
+    ensures fits { IfOk result (λ n. n ≤ length buf.old) }
+{
+    for _ in 1..TRIES {
+        match file.read(buf) {
+            Err(error) if error.kind() == ErrorKind::Interrupted => {}
+            outcome => return outcome,
+        }
+    }
+    file.read(buf)
 }
 
 #[cfg(test)]
@@ -191,6 +236,10 @@ mod tests {
         let real = fs::canonicalize(&rt, file.as_str())?;
         let real = real.as_str();
         let there = format!(in rt.alloc(); "10 {real}")?;
+        let mut long = String::new(rt.alloc());
+        for _ in 0..300 {
+            long.push('a')?;
+        }
         let mut tree = RealTree::new(&rt);
         for (name, wanted) in [
             ("file", there.as_str()),
@@ -200,6 +249,7 @@ mod tests {
             ("nothing", "absent"),
             ("nothing/below", "absent"),
             ("file/below", "absent"),
+            (long.as_str(), "absent"),
         ] {
             let path = scratch::below(&rt, folder.as_str(), name)?;
             let found = tree.probe(rt.alloc(), &path)?;
@@ -262,12 +312,17 @@ mod tests {
             "links in a circle"
         );
         assert_eq!(rt; tree.faults, 4);
+        let there = tree.probe(rt.alloc(), &digits)?;
+        assert!(rt; matches!(&there, Found::File { len: 10, .. }));
+        assert_eq!(rt; tree.read_at(&digits, 0, &mut buf), Ok(4));
+        fs::write(&rt, digits.as_str(), "01234567890")?;
         assert_eq!(rt;
-            tree.read_at(&digits, 0, &mut buf),
-            Ok(4),
-            "after the faults"
+            tree.read_at(&digits, 4, &mut buf),
+            Err(Failed),
+            "another length"
         );
-        assert_eq!(rt; tree.faults, 4);
+        assert_eq!(rt; tree.read_at(&digits, 4, &mut buf), Ok(4), "opened anew");
+        assert_eq!(rt; tree.faults, 5);
         fs::remove_dir_all(&rt, folder.as_str())?;
         Ok(())
     }
