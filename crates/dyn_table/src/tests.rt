@@ -54,12 +54,12 @@ fn reads_the_smallest_program(rt: HostRuntime) -> Result<(), Fail> {
             value: SYM_SIZE
         }
     );
-    let name = table.text(&bytes, 1);
-    assert_eq!(rt; name == Some(b"libc.so.6".as_slice()), true);
-    let last = table.text(&bytes, 10);
-    assert_eq!(rt; last == Some(b"".as_slice()), true);
-    let past = table.text(&bytes, 11);
-    assert_eq!(rt; past.is_none(), true);
+    assert_eq!(rt;
+        table.text(&bytes, 1) == Some(b"libc.so.6".as_slice()),
+        true
+    );
+    assert_eq!(rt; table.text(&bytes, 10) == Some(b"".as_slice()), true);
+    assert_eq!(rt; table.text(&bytes, 11).is_none(), true);
     Ok(())
 }
 
