@@ -86,7 +86,12 @@ impl Front {
 
     /// The parts of the table at an address, if memory has them from the file.
     #[tactic(auto, using(crate::proofs::Placing::front_cut, crate::proofs::Placing::front_fits, crate::proofs::Placing::front_there))]
-    pub(crate) fn read(alloc: Global, elf: &Elf, bytes: &[u8], addr: u64) -> Result<Option<Front>, AllocError>
+    pub(crate) fn read(
+        alloc: Global,
+        elf: &Elf,
+        bytes: &[u8],
+        addr: u64,
+    ) -> Result<Option<Front>, AllocError>
         requires { IsReadFrom elf.now bytes.now }
         ensures { IfOk result (λ found. MatchOption found (range_in elf.now addr (chains_from bytes.now elf.now addr) ≡ None) (λ f. IsFrontOf f bytes.now elf.now addr)) }
     {

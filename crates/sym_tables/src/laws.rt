@@ -45,7 +45,7 @@ pub fn reach_is_least()
         → bad_gnu file segments (Some addr) ≡ None
         → greatest (gnu_buckets file segments addr) ≢ 0
         → (gnu_reach file segments addr ≡ Some (last + 1))
-            ↔ IsLeastEnd file segments addr (greatest (gnu_buckets file segments addr)) last }
+        ↔ IsLeastEnd file segments addr (greatest (gnu_buckets file segments addr)) last }
 {}
 
 /// In a file without these flaws each symbol that other objects may bind to is listed by each hash table that is there, in

@@ -25,6 +25,8 @@ mod words;
 pub use byte_view::Flaw;
 pub use faults::SymFault;
 pub use hashes::{gnu_hash, sysv_hash};
-pub use laws::{chain_is_list, each_table_lists, hash_values, reach_is_least, reach_within_symbols};
+pub use laws::{
+    chain_is_list, each_table_lists, hash_values, reach_is_least, reach_within_symbols,
+};
 pub use load_model::RawSym;
 pub use table::Syms;
