@@ -10,5 +10,5 @@ abbrev pub with_text : List (List ℕ) → List ℕ → List (List ℕ)
 with_text texts text = cond (has texts text) texts (texts ++ text ∷ [])
 
 -- each text once, in the order of their first uses
-unfoldable pub distinct : List (List ℕ) → List (List ℕ)
-distinct texts = fold with_text [] texts
+unfoldable pub each_once : List (List ℕ) → List (List ℕ)
+each_once texts = fold with_text [] texts

@@ -4,7 +4,7 @@ use Rattle.byte_view.specs.declared.constants.TheConstants.{DT_NULL, DT_NEEDED, 
 use Rattle.byte_view.specs.declared.dynamic.Entry.{Entry}
 use Rattle.elf_make.specs.Bytes.{longs}
 use Rattle.elf_make.specs.Texts.{string_place}
-use Rattle.elf_make.specs.Versions.{is_none_of, is_versioned, files_of}
+use Rattle.elf_make.specs.Versions.{is_none_of, has_version_indexes, files_of}
 use Rattle.elf_make.specs.declared.shape.Shape.{Shape}
 use Rattle.elf_make.specs.declared.versions.Versions.{Versions}
 use Rattle.elf_make.specs.declared.parts.Parts.{Parts}
@@ -39,7 +39,7 @@ table_entries shape parts places =
 -- where its versions are
 unfoldable pub version_entries : Versions → Places → List Entry
 version_entries versions places =
-    where_wanted (is_versioned versions) DT_VERSYM places.versym
+    where_wanted (has_version_indexes versions) DT_VERSYM places.versym
     ++ (cond (is_none_of versions.definitions) []
     (tagged DT_VERDEF places.verdef ∷ tagged DT_VERDEFNUM (1 + length versions.definitions) ∷ [])
     ++ cond (is_none_of versions.needed) []

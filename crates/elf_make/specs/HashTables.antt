@@ -6,15 +6,15 @@ use Rattle.elf_make.specs.Versions.{is_none_of}
 use Rattle.elf_make.specs.declared.symbols.Symbol.{Symbol}
 
 -- nbucket, nchain, the bucket, the chain: the bucket holds the greatest index, and each symbol leads to the one before
-unfoldable pub sysv_table : ℕ → List ℕ
-sysv_table count = words (1 ∷ count ∷ (count - 1) ∷ []) ++ words (map (λ i. i - 1) (range_with_len 0 count))
+unfoldable pub made_sysv_table : ℕ → List ℕ
+made_sysv_table count = words (1 ∷ count ∷ (count - 1) ∷ []) ++ words (map (λ i. i - 1) (range_with_len 0 count))
 
 -- two bits of the Bloom word stand for a hash
-abbrev pub bloom_shift : ℕ
-bloom_shift = 6
+abbrev pub made_bloom_shift : ℕ
+made_bloom_shift = 6
 
 abbrev pub with_bits : ℕ → ℕ → ℕ
-with_bits word hash = bit_or (bit_or word (2 ^ (hash % 64))) (2 ^ (hash / 2 ^ bloom_shift % 64))
+with_bits word hash = bit_or (bit_or word (2 ^ (hash % 64))) (2 ^ (hash / 2 ^ made_bloom_shift % 64))
 
 -- the word with exactly the bits of these hashes
 unfoldable pub bloom_word : List ℕ → ℕ
@@ -29,9 +29,9 @@ chain_words (hash ∷ next ∷ more) = (2 * (hash / 2)) ∷ chain_words (next �
 -- nbuckets, symoffset, bloom_size, bloom_shift; the Bloom word; the bucket; the chain of the hashes of the listed symbols
 unfoldable pub gnu_words : ℕ → List ℕ → List ℕ
 gnu_words offset hashes =
-    words (1 ∷ offset ∷ 1 ∷ bloom_shift ∷ []) ++ (longs (bloom_word hashes ∷ [])
+    words (1 ∷ offset ∷ 1 ∷ made_bloom_shift ∷ []) ++ (longs (bloom_word hashes ∷ [])
     ++ (words (cond (is_none_of hashes) 0 offset ∷ []) ++ words (chain_words hashes)))
 
 -- the table that lists the symbols from symoffset on
-unfoldable pub gnu_table : ℕ → List Symbol → List ℕ
-gnu_table offset symbols = gnu_words offset (map (λ s. s.hash) (drop offset symbols))
+unfoldable pub made_gnu_table : ℕ → List Symbol → List ℕ
+made_gnu_table offset symbols = gnu_words offset (map (λ s. s.hash) (drop offset symbols))

@@ -4,8 +4,8 @@ use Rattle.byte_view.specs.declared.constants.TheConstants.{EHDR_SIZE, PHDR_SIZE
 use Rattle.elf_make.specs.Bytes.{padded}
 use Rattle.elf_make.specs.Texts.{string_table, ended}
 use Rattle.elf_make.specs.Symbols.{symbol_table, version_indexes, plain_imports}
-use Rattle.elf_make.specs.HashTables.{sysv_table, gnu_table}
-use Rattle.elf_make.specs.Versions.{is_versioned}
+use Rattle.elf_make.specs.HashTables.{made_sysv_table, made_gnu_table}
+use Rattle.elf_make.specs.Versions.{has_version_indexes}
 use Rattle.elf_make.specs.VersionTables.{verdef_of, verneed_of}
 use Rattle.elf_make.specs.declared.shape.Shape.{Shape}
 use Rattle.elf_make.specs.declared.symbols.Symbol.{Symbol}
@@ -17,18 +17,18 @@ use Rattle.elf_make.specs.declared.parts.Places.{Places}
 abbrev pub wanted : Bool → List ℕ → List ℕ
 wanted b part = cond b part []
 
-abbrev pub interp_of : Option (List ℕ) → List ℕ
-interp_of None = []
-interp_of (Some path) = ended path
+abbrev pub made_interp : Option (List ℕ) → List ℕ
+made_interp None = []
+made_interp (Some path) = ended path
 
-unfoldable pub parts_of : Shape → Versions → List (List ℕ) → List Symbol → Parts
-parts_of shape versions texts symbols = record {
-  interp = interp_of shape.interp;
+unfoldable pub made_parts : Shape → Versions → List (List ℕ) → List Symbol → Parts
+made_parts shape versions texts symbols = record {
+  interp = made_interp shape.interp;
   strings = string_table texts;
   symbols = symbol_table symbols;
-  sysv = wanted shape.sysv (sysv_table (length symbols));
-  gnu = wanted shape.gnu (gnu_table (1 + length (plain_imports shape)) symbols);
-  versym = wanted (is_versioned versions) (version_indexes symbols);
+  sysv = wanted shape.sysv (made_sysv_table (length symbols));
+  gnu = wanted shape.gnu (made_gnu_table (1 + length (plain_imports shape)) symbols);
+  versym = wanted (has_version_indexes versions) (version_indexes symbols);
   verdef = verdef_of texts shape.soname versions.definitions;
   verneed = verneed_of texts versions;
 }

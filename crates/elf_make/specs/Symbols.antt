@@ -57,8 +57,8 @@ unfoldable pub valued_imports : Shape → List Import
 valued_imports shape = filter (λ i. not (has_no_value i)) shape.imports
 
 -- the symbols by index
-unfoldable pub symbols_of : Shape → List (List ℕ) → Versions → List Symbol
-symbols_of shape texts versions =
+unfoldable pub made_symbols : Shape → List (List ℕ) → Versions → List Symbol
+made_symbols shape texts versions =
     null_symbol ∷ (map (import_symbol texts versions) (plain_imports shape)
     ++ (map (import_symbol texts versions) (valued_imports shape)
     ++ exports_from texts versions (1 + length shape.imports) shape.exports))

@@ -4,7 +4,7 @@ use Rattle.byte_view.specs.declared.constants.TheConstants.{VER_CURRENT, VER_FLG
 use Rattle.load_model.specs.declared.asks.Ask.{Ask}
 use Rattle.elf_make.specs.Bytes.{halves, words}
 use Rattle.elf_make.specs.Texts.{string_place}
-use Rattle.elf_make.specs.Versions.{is_none_of, asks_of, files_of, first_needed_index}
+use Rattle.elf_make.specs.Versions.{is_none_of, asks_of_file, files_of, first_needed_index}
 use Rattle.elf_make.specs.declared.versions.Versions.{Versions}
 
 -- how far the next record is, where there is one
@@ -46,12 +46,12 @@ unfoldable pub need_records : List (List ℕ) → ℕ → List ℕ → List Ask 
 need_records texts index file asks next = need_record (length asks) (string_place texts file) next ++ asks_from texts index asks
 
 -- the records of these files
-abbrev pub needs_from : List (List ℕ) → List Ask → ℕ → List (List ℕ) → List ℕ
-needs_from texts needed index [] = []
-needs_from texts needed index (file ∷ more) =
-    need_records texts index file (asks_of file needed) (next_after (16 + 16 * length (asks_of file needed)) more)
-    ++ needs_from texts needed (index + length (asks_of file needed)) more
+abbrev pub need_records_from : List (List ℕ) → List Ask → ℕ → List (List ℕ) → List ℕ
+need_records_from texts needed index [] = []
+need_records_from texts needed index (file ∷ more) =
+    need_records texts index file (asks_of_file file needed) (next_after (16 + 16 * length (asks_of_file file needed)) more)
+    ++ need_records_from texts needed (index + length (asks_of_file file needed)) more
 
 -- the needed versions, file by file
 unfoldable pub verneed_of : List (List ℕ) → Versions → List ℕ
-verneed_of texts versions = needs_from texts versions.needed (first_needed_index versions) (files_of versions.needed)
+verneed_of texts versions = need_records_from texts versions.needed (first_needed_index versions) (files_of versions.needed)

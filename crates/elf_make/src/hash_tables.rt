@@ -4,7 +4,7 @@
 
 ghost use Rattle.std.specs.Prelude.{◌≡◌, ◌-◌, map, drop, IfOk};
 ghost use Rattle.std.specs.List.{range_with_len};
-ghost use Rattle.elf_make.specs.HashTables.{sysv_table, with_bits, bloom_word, chain_words, gnu_words, gnu_table};
+ghost use Rattle.elf_make.specs.HashTables.{made_sysv_table, with_bits, bloom_word, chain_words, gnu_words, made_gnu_table};
 
 use crate::numbers::{push_longs, push_words};
 use crate::symbols::Symbol;
@@ -19,9 +19,9 @@ fn chain_down(alloc: Global, count: u32) -> Result<Vec<u32>, AllocError>
 }
 
 /// The System V table of so many symbols: the bucket holds the greatest index, and each symbol leads to the one before.
-#[tactic(auto, unfolding(crate::specs::HashTables::sysv_table))]
+#[tactic(auto, unfolding(crate::specs::HashTables::made_sysv_table))]
 pub(crate) fn sysv_table(alloc: Global, count: u32) -> Result<Text, NoMemory>
-    ensures { IfOk result (λ table. table ≡ sysv_table count) }
+    ensures { IfOk result (λ table. table ≡ made_sysv_table count) }
 {
     let chain = chain_down(alloc, count)?;
     let mut table = Vec::new(alloc);
@@ -85,9 +85,9 @@ fn hashes_from(alloc: Global, offset: usize, symbols: &[Symbol]) -> Result<Vec<u
 }
 
 /// The GNU table that lists the symbols from `offset` on.
-#[tactic(auto, unfolding(crate::specs::HashTables::gnu_table))]
+#[tactic(auto, unfolding(crate::specs::HashTables::made_gnu_table))]
 pub(crate) fn gnu_table(alloc: Global, offset: u32, symbols: &[Symbol]) -> Result<Text, NoMemory>
-    ensures { IfOk result (λ table. table ≡ gnu_table offset symbols.now) }
+    ensures { IfOk result (λ table. table ≡ made_gnu_table offset symbols.now) }
 {
     let hashes = hashes_from(alloc, offset as usize, symbols)?;
     gnu_words(alloc, offset, hashes.as_slice())

@@ -1,7 +1,8 @@
 //! A made file, from its parts.
 
-ghost use Rattle.std.specs.Prelude.{◌≡◌, IfOk};
-ghost use Rattle.elf_make.specs.Object.{file_of, object_of};
+ghost use Rattle.std.specs.Prelude.{◌≡◌, IfOk, OnOk};
+ghost use Rattle.elf_make.specs.Object.{made_file, made_object};
+ghost use Rattle.elf_make.specs.Versions.{HasFewVersions, made_versions};
 
 use crate::dynamic_table::{dynamic_size, entries_of, push_entries};
 use crate::headers::{push_file_header, push_sections, push_segments, segments_of};
@@ -15,7 +16,7 @@ use load_model::{NoMemory, Text};
 use std::alloc::Global;
 
 /// The file with these parts: the headers, the parts, the dynamic table and the section headers.
-#[tactic(auto, unfolding(crate::specs::Object::file_of))]
+#[tactic(auto, unfolding(crate::specs::Object::made_file))]
 fn file_of(
     alloc: Global,
     shape: &Shape,
@@ -23,7 +24,7 @@ fn file_of(
     places: &Places,
     entries: &[Entry],
 ) -> Result<Text, NoMemory>
-    ensures { IfOk result (λ text. text ≡ file_of shape.now parts.now places.now entries.now) }
+    ensures { IfOk result (λ text. text ≡ made_file shape.now parts.now places.now entries.now) }
 {
     let size = dynamic_size(entries)?;
     let end = places.dynamic.checked_add(size).ok_or(NoMemory)?;
@@ -39,10 +40,12 @@ fn file_of(
 
 /// The file of this shape, byte for byte.
 ///
-/// A shape whose sizes pass what their words in the file can say is not made: the answer is `NoMemory`.
-#[tactic(auto, unfolding(crate::specs::Object::object_of))]
+/// A shape whose sizes pass what their words in the file can say is not made, nor one of more versions
+/// than there are indexes: the answer is `NoMemory`.
+#[tactic(auto, unfolding(crate::specs::Object::made_object))]
 pub fn make_object(alloc: Global, shape: &Shape) -> Result<Text, NoMemory>
-    ensures { IfOk result (λ text. text ≡ object_of shape.now) }
+    ensures bytes { IfOk result (λ text. text ≡ made_object shape.now) }
+    ensures versions { OnOk result (HasFewVersions (made_versions shape.now)) }
 {
     let versions = versions_of(alloc, shape)?;
     let texts = strings_of(alloc, shape, &versions)?;

@@ -1,10 +1,10 @@
 //! The parts of a made file between its headers and its dynamic table, and where they stand.
 
 ghost use Rattle.std.specs.Prelude.{◌≡◌, ◌+◌, ◌++◌, length, OnOk, IfOk};
-ghost use Rattle.elf_make.specs.HashTables.{sysv_table as sysv_bytes, gnu_table as gnu_bytes};
-ghost use Rattle.elf_make.specs.Symbols.{version_indexes as version_words, plain_imports};
-ghost use Rattle.elf_make.specs.Versions.{is_versioned};
-ghost use Rattle.elf_make.specs.Parts.{wanted, interp_of, parts_of, segment_count, parts_begin, places_of, symbol_parts, version_parts, part_bytes};
+ghost use Rattle.elf_make.specs.HashTables.{made_sysv_table, made_gnu_table};
+ghost use Rattle.elf_make.specs.Symbols.{plain_imports, version_indexes as version_words};
+ghost use Rattle.elf_make.specs.Versions.{has_version_indexes};
+ghost use Rattle.elf_make.specs.Parts.{wanted, made_interp, made_parts, segment_count, parts_begin, places_of, symbol_parts, version_parts, part_bytes};
 
 use crate::hash_tables::{gnu_table, sysv_table};
 use crate::numbers::{after, push_bytes, push_padded};
@@ -46,7 +46,7 @@ pub(crate) struct Places {
 
 /// The interpreter and a zero, where there is one.
 fn interp_of(alloc: Global, interp: &Option<Name>) -> Result<Text, NoMemory>
-    ensures { IfOk result (λ part. part ≡ interp_of interp.now) }
+    ensures { IfOk result (λ part. part ≡ made_interp interp.now) }
 {
     let mut part = Vec::new(alloc);
     if let Some(path) = interp {
@@ -58,7 +58,7 @@ fn interp_of(alloc: Global, interp: &Option<Name>) -> Result<Text, NoMemory>
 
 /// The System V hash table, where it is wanted.
 fn sysv_of(alloc: Global, shape: &Shape, symbols: &[Symbol]) -> Result<Text, NoMemory>
-    ensures { IfOk result (λ part. part ≡ wanted shape.now.sysv (sysv_bytes (length symbols.now))) }
+    ensures { IfOk result (λ part. part ≡ wanted shape.now.sysv (made_sysv_table (length symbols.now))) }
 {
     if shape.sysv {
         sysv_table(alloc, count_of(symbols.len())?)
@@ -69,7 +69,7 @@ fn sysv_of(alloc: Global, shape: &Shape, symbols: &[Symbol]) -> Result<Text, NoM
 
 /// The GNU hash table, where it is wanted: it lists the symbols behind the imports without a value.
 fn gnu_of(alloc: Global, shape: &Shape, symbols: &[Symbol]) -> Result<Text, NoMemory>
-    ensures { IfOk result (λ part. part ≡ wanted shape.now.gnu (gnu_bytes (1 + length (plain_imports shape.now)) symbols.now)) }
+    ensures { IfOk result (λ part. part ≡ wanted shape.now.gnu (made_gnu_table (1 + length (plain_imports shape.now)) symbols.now)) }
 {
     if shape.gnu {
         let plain = count_of(count_plain(shape))?;
@@ -81,7 +81,7 @@ fn gnu_of(alloc: Global, shape: &Shape, symbols: &[Symbol]) -> Result<Text, NoMe
 
 /// The version indexes, where there are versions.
 fn versym_of(alloc: Global, versions: &Versions, symbols: &[Symbol]) -> Result<Text, NoMemory>
-    ensures { IfOk result (λ part. part ≡ wanted (is_versioned versions.now) (version_words symbols.now)) }
+    ensures { IfOk result (λ part. part ≡ wanted (has_version_indexes versions.now) (version_words symbols.now)) }
 {
     if versions.is_versioned() {
         version_indexes(alloc, symbols)
@@ -91,7 +91,7 @@ fn versym_of(alloc: Global, versions: &Versions, symbols: &[Symbol]) -> Result<T
 }
 
 /// The parts of a file.
-#[tactic(auto, unfolding(crate::specs::Parts::parts_of))]
+#[tactic(auto, unfolding(crate::specs::Parts::made_parts))]
 pub(crate) fn parts_of(
     alloc: Global,
     shape: &Shape,
@@ -99,7 +99,7 @@ pub(crate) fn parts_of(
     texts: &Strings,
     symbols: &[Symbol],
 ) -> Result<Parts, NoMemory>
-    ensures { IfOk result (λ parts. parts ≡ parts_of shape.now versions.now texts.now symbols.now) }
+    ensures { IfOk result (λ parts. parts ≡ made_parts shape.now versions.now texts.now symbols.now) }
 {
     Ok(Parts {
         interp: interp_of(alloc, &shape.interp)?,

@@ -3,7 +3,7 @@
 //! System V gABI, Symbol Table.
 
 ghost use Rattle.std.specs.Prelude.{◌≡◌, ◌+◌, ◌++◌, length, map, OnOk, IfOk};
-ghost use Rattle.elf_make.specs.Symbols.{global_info, import_symbol, export_symbol, exports_from, has_no_value, plain_imports, valued_imports, symbols_of, symbol_bytes, symbol_table, version_indexes};
+ghost use Rattle.elf_make.specs.Symbols.{global_info, import_symbol, export_symbol, exports_from, has_no_value, plain_imports, valued_imports, made_symbols, symbol_bytes, symbol_table, version_indexes};
 
 use crate::numbers::{push_bytes, push_halves, push_longs, push_words};
 use crate::shape::{Export, Import, Shape};
@@ -174,14 +174,14 @@ pub(crate) fn count_of(len: usize) -> Result<u32, NoMemory>
 }
 
 /// The symbols by index.
-#[tactic(auto, unfolding(crate::specs::Symbols::symbols_of))]
+#[tactic(auto, unfolding(crate::specs::Symbols::made_symbols))]
 pub(crate) fn symbols_of(
     alloc: Global,
     shape: &Shape,
     texts: &Strings,
     versions: &Versions,
 ) -> Result<List<Symbol>, NoMemory>
-    ensures { IfOk result (λ symbols. symbols ≡ symbols_of shape.now texts.now versions.now) }
+    ensures { IfOk result (λ symbols. symbols ≡ made_symbols shape.now texts.now versions.now) }
 {
     let mut symbols = List::new(alloc);
     symbols.push(NULL)?;

@@ -3,7 +3,7 @@
 //! Linux Standard Base, Symbol Versioning.
 
 ghost use Rattle.std.specs.Prelude.{◌≡◌, ◌+◌, ◌*◌, ◌++◌, OnOk, IfOk};
-ghost use Rattle.elf_make.specs.VersionTables.{definition_record, definitions_from, verdef_of, ask_record, asks_from, need_record, need_records, needs_from, verneed_of};
+ghost use Rattle.elf_make.specs.VersionTables.{definition_record, definitions_from, verdef_of, ask_record, asks_from, need_record, need_records, need_records_from, verneed_of};
 
 use crate::numbers::{push_halves, push_words};
 use crate::strings::Strings;
@@ -139,7 +139,7 @@ fn push_needs(
     first: u16,
     files: &[Name],
 ) -> Result<(), NoMemory>
-    ensures { OnOk result (out.new.items ≡ out.old.items ++ needs_from texts.now needed.now first files.now) }
+    ensures { OnOk result (out.new.items ≡ out.old.items ++ need_records_from texts.now needed.now first files.now) }
 {
     let mut index = first;
     let mut rest = files;

@@ -4,9 +4,10 @@
 //! of versions, and linear in that of symbols: made files have few versions.
 
 ghost use Rattle.std.specs.Prelude.{bytes_eq, ◌≡◌, ◌+◌, ◌++◌, fold, filter_map, flat_map, OnOk, IfOk};
+ghost use Rattle.std.specs.Bool.{OnTrue};
 ghost use Rattle.std.specs.List.{list_any, position_from};
-ghost use Rattle.elf_make.specs.Distinct.{distinct};
-ghost use Rattle.elf_make.specs.Versions.{asked_by, uses_of, is_version, with_ask, first_uses, files_of, asks_of, by_file, versions_of, is_versioned, place_of, index_of_definition, first_needed_index, index_by, import_index, export_index};
+ghost use Rattle.elf_make.specs.Distinct.{each_once};
+ghost use Rattle.elf_make.specs.Versions.{HasFewVersions, ask_of_import, uses_of, is_version, with_ask, first_uses, files_of, asks_of_file, file_by_file, made_versions, has_version_indexes, place_of, index_of_definition, first_needed_index, index_by, import_index, export_index};
 
 use crate::distinct::add_text;
 use crate::shape::{Export, Import, Shape};
@@ -59,7 +60,7 @@ fn add_ask(asks: &mut List<Ask>, ask: Ask) -> Result<(), NoMemory>
 
 /// What an import asks, where it names both a file and a version.
 fn asked_by(alloc: Global, import: &Import) -> Result<Option<Ask>, NoMemory>
-    ensures { IfOk result (λ ask. ask ≡ asked_by import.now) }
+    ensures { IfOk result (λ ask. ask ≡ ask_of_import import.now) }
 {
     match (&import.file, &import.version) {
         (Some(file), Some(name)) => Ok(Some(Ask {
@@ -73,7 +74,7 @@ fn asked_by(alloc: Global, import: &Import) -> Result<Option<Ask>, NoMemory>
 
 /// Adds what the imports ask.
 fn add_imports(alloc: Global, asks: &mut List<Ask>, imports: &[Import]) -> Result<(), NoMemory>
-    ensures { OnOk result (asks.new ≡ fold with_ask asks.old (filter_map asked_by imports.now)) }
+    ensures { OnOk result (asks.new ≡ fold with_ask asks.old (filter_map ask_of_import imports.now)) }
 {
     for import in imports {
         if let Some(ask) = asked_by(alloc, import)? {
@@ -105,7 +106,7 @@ fn first_uses(alloc: Global, shape: &Shape) -> Result<List<Ask>, NoMemory>
 }
 
 /// The files of the asks, each once.
-#[tactic(auto, unfolding(crate::specs::Versions::files_of, crate::specs::Distinct::distinct))]
+#[tactic(auto, unfolding(crate::specs::Versions::files_of, crate::specs::Distinct::each_once))]
 pub(crate) fn files_of(alloc: Global, asks: &[Ask]) -> Result<List<Name>, NoMemory>
     ensures { IfOk result (λ files. files ≡ files_of asks.now) }
 {
@@ -117,14 +118,14 @@ pub(crate) fn files_of(alloc: Global, asks: &[Ask]) -> Result<List<Name>, NoMemo
 }
 
 /// Appends the asks of a file.
-#[tactic(auto, unfolding(crate::specs::Versions::asks_of))]
+#[tactic(auto, unfolding(crate::specs::Versions::asks_of_file))]
 fn push_asks_of(
     alloc: Global,
     out: &mut List<Ask>,
     file: &[u8],
     asks: &[Ask],
 ) -> Result<(), NoMemory>
-    ensures { OnOk result (out.new ≡ out.old ++ asks_of file.now asks.now) }
+    ensures { OnOk result (out.new ≡ out.old ++ asks_of_file file.now asks.now) }
 {
     for ask in asks {
         if ask.file.as_bytes() == file {
@@ -136,7 +137,7 @@ fn push_asks_of(
 
 /// The asks of a file.
 pub(crate) fn asks_of(alloc: Global, file: &[u8], asks: &[Ask]) -> Result<List<Ask>, NoMemory>
-    ensures { IfOk result (λ found. found ≡ asks_of file.now asks.now) }
+    ensures { IfOk result (λ found. found ≡ asks_of_file file.now asks.now) }
 {
     let mut found = List::new(alloc);
     push_asks_of(alloc, &mut found, file, asks)?;
@@ -150,7 +151,7 @@ fn push_by_file(
     files: &[Name],
     asks: &[Ask],
 ) -> Result<(), NoMemory>
-    ensures { OnOk result (out.new ≡ out.old ++ flat_map (λ file. asks_of file asks.now) files.now) }
+    ensures { OnOk result (out.new ≡ out.old ++ flat_map (λ file. asks_of_file file asks.now) files.now) }
 {
     for file in files {
         push_asks_of(alloc, out, file.as_bytes(), asks)?;
@@ -159,9 +160,9 @@ fn push_by_file(
 }
 
 /// The asks, file by file.
-#[tactic(auto, unfolding(crate::specs::Versions::by_file))]
+#[tactic(auto, unfolding(crate::specs::Versions::file_by_file))]
 fn by_file(alloc: Global, asks: &[Ask]) -> Result<List<Ask>, NoMemory>
-    ensures { IfOk result (λ sorted. sorted ≡ by_file asks.now) }
+    ensures { IfOk result (λ sorted. sorted ≡ file_by_file asks.now) }
 {
     let files = files_of(alloc, asks)?;
     let mut sorted = List::new(alloc);
@@ -170,9 +171,9 @@ fn by_file(alloc: Global, asks: &[Ask]) -> Result<List<Ask>, NoMemory>
 }
 
 /// The versions that the exports define, each once.
-#[tactic(auto, unfolding(crate::specs::Distinct::distinct))]
+#[tactic(auto, unfolding(crate::specs::Distinct::each_once))]
 fn definitions_of(alloc: Global, exports: &[Export]) -> Result<List<Name>, NoMemory>
-    ensures { IfOk result (λ names. names ≡ distinct (filter_map (λ e. e.version) exports.now)) }
+    ensures { IfOk result (λ names. names ≡ each_once (filter_map (λ e. e.version) exports.now)) }
 {
     let mut names = List::new(alloc);
     for export in exports {
@@ -183,10 +184,10 @@ fn definitions_of(alloc: Global, exports: &[Export]) -> Result<List<Name>, NoMem
     Ok(names)
 }
 
-/// The versions of the file.
-#[tactic(auto, unfolding(crate::specs::Versions::versions_of))]
-pub(crate) fn versions_of(alloc: Global, shape: &Shape) -> Result<Versions, NoMemory>
-    ensures { IfOk result (λ versions. versions ≡ versions_of shape.now) }
+/// The versions of the file, however many they are.
+#[tactic(auto, unfolding(crate::specs::Versions::made_versions))]
+fn all_versions_of(alloc: Global, shape: &Shape) -> Result<Versions, NoMemory>
+    ensures { IfOk result (λ versions. versions ≡ made_versions shape.now) }
 {
     let uses = first_uses(alloc, shape)?;
     Ok(Versions {
@@ -195,10 +196,31 @@ pub(crate) fn versions_of(alloc: Global, shape: &Shape) -> Result<Versions, NoMe
     })
 }
 
+/// Are there indexes for all versions, from 2 on? An index has fifteen bits of its word.
+fn has_few_versions(versions: &Versions) -> bool
+    ensures { OnTrue result (HasFewVersions versions.now) }
+{
+    let definitions = versions.definitions.as_slice().len();
+    let needed = versions.needed.as_slice().len();
+    2 + definitions as u128 + needed as u128 <= VERSYM_HIDDEN as u128
+}
+
+/// The versions of the file. More than there are indexes are not made.
+pub(crate) fn versions_of(alloc: Global, shape: &Shape) -> Result<Versions, NoMemory>
+    ensures versions { IfOk result (λ versions. versions ≡ made_versions shape.now) }
+    ensures few { IfOk result (λ versions. HasFewVersions versions) }
+{
+    let versions = all_versions_of(alloc, shape)?;
+    if !has_few_versions(&versions) {
+        return Err(NoMemory);
+    }
+    Ok(versions)
+}
+
 impl Versions {
     /// Does the file have version indexes?
     pub(crate) fn is_versioned(&self) -> bool
-        ensures { result ≡ is_versioned self.now }
+        ensures { result ≡ has_version_indexes self.now }
     {
         !(self.definitions.as_slice().is_empty() && self.needed.as_slice().is_empty())
     }
@@ -252,7 +274,7 @@ fn index_of_definition(definitions: &[Name], name: &[u8]) -> Result<u16, NoMemor
     index_at(2, place_of_text(definitions, name))
 }
 
-/// The index that is so many above another. More than a word can say are not made.
+/// The index that is so many above another.
 pub(crate) fn index_at(first: u16, place: usize) -> Result<u16, NoMemory>
     ensures { IfOk result (λ index. index ≡ first + place) }
 {
