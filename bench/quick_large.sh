@@ -1,6 +1,7 @@
 #!/usr/bin/env bash
-# Packs the largest program of the machine that can be packed, and prints two ratios: the time of `quick` to that of cp of
-# the same file, and its peak memory to the file's length. The aim is at most 3 for each.
+# Packs the largest program of the machine that can be packed, and prints three ratios: the time of `quick` to that of cp of
+# the same file, and to that of cp with a sync of the copy, since `quick` ends when the system has its files on disk; and
+# its peak memory to the file's length. The aim is at most 3 for the time with a sync and for the memory.
 # It needs the built program (crates/appdir/out/appdir) and python3. Programs may be given; else those of the machine are
 # tried from the largest on.
 set -u
@@ -55,7 +56,7 @@ def made(room):
 
 def measure(room, path):
     out, names = os.path.join(room, "out"), names_of(path)
-    quick, cp, peak = [], [], 0
+    quick, cp, synced, peak = [], [], [], 0
     for _ in range(TRIES):
         shutil.rmtree(out, ignore_errors=True)
         seconds, memory, said = timed([appdir, "quick", path, out, *names])
@@ -64,12 +65,14 @@ def measure(room, path):
         quick.append(seconds)
         peak = max(peak, memory)
         copy = os.path.join(room, "copy")
-        if os.path.exists(copy):
-            os.remove(copy)
         cp.append(timed(["cp", path, copy])[0])
+        os.remove(copy)
+        synced.append(timed(["sh", "-c", 'cp "$1" "$2" && sync "$2"', "-", path, copy])[0])
+        os.remove(copy)
     size = os.path.getsize(path)
     print(f"{path}: {size} bytes")
     print(f"quick {min(quick):.3f} s, cp {min(cp):.3f} s: time ratio {min(quick) / min(cp):.2f}")
+    print(f"cp and sync {min(synced):.3f} s: time ratio {min(quick) / min(synced):.2f}")
     print(f"peak memory {peak} bytes: memory ratio {peak / size:.2f}")
     return None
 

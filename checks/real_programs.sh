@@ -38,7 +38,7 @@ refuses() {
     said=$("$appdir" "$@" 2>"$work/errors")
     status=$?
     if [ "$said" = "$line" ] && [ ! -s "$work/errors" ] && [ "$status" = 1 ]; then
-        pass "$what: $said"
+        pass "$what: ${said:0:120}"
     else
         fail "$what: '$said', '$(cat "$work/errors")' with status $status, and not '$line' with status 1"
     fi
