@@ -72,7 +72,8 @@ impl<R: Files + AllocGlobal + Clone + Drop> RealOut<R> {
         }
     }
 
-    /// Makes the folder where it is absent, looks whether it is empty, and remembers it as the root.
+    /// Makes the folder where it is absent, looks whether it is empty, and remembers it as the
+    /// root.
     fn open_root(&mut self, path: &str) -> io::Result<RootState>
         ensures opened { OnOk result (IsSome self.new.root) }
         ensures given_up { OnOk result (IsNone self.new.writing) }

@@ -1,4 +1,5 @@
-//! The program `appdir`: hands its words, and the real tree, folder and sink, to the call that does the work.
+//! The program `appdir`: hands its words, and the real tree, folder and sink, to the call that does
+//! the work.
 #![tactic(auto)]
 
 mod counting;
@@ -42,7 +43,8 @@ fn run(rt: &HostRuntime) -> Status {
     status
 }
 
-/// The words after the program's name. Words that are not UTF-8 make no command, and stand for no words at all.
+/// The words after the program's name. Words that are not UTF-8 make no command, and stand for no
+/// words at all.
 fn words(rt: &HostRuntime) -> io::Result<Vec<String>> {
     match env::args(rt) {
         Ok(words) => Ok(words.skip(1).collect(rt.alloc())?),

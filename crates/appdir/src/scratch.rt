@@ -5,8 +5,8 @@ use std::test::Fail;
 use std::time::{SystemTime, UNIX_EPOCH};
 use std::{env, fs};
 
-/// Makes an empty folder for a test below the one for temporary files. Its name has the time in it, so that it meets
-/// nothing that an earlier run left. The test removes it.
+/// Makes an empty folder for a test below the one for temporary files. Its name has the time in it,
+/// so that it meets nothing that an earlier run left. The test removes it.
 pub fn empty_folder(rt: &HostRuntime, name: &str) -> Result<String, Fail> {
     let temporary = env::temp_dir(rt)?;
     let temporary = temporary.as_str();
