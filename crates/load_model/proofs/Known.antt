@@ -2,7 +2,7 @@
 use Rattle.std.proofs.Common.{◌≡◌, refl, ℕ, suc, ◌+◌, ◌<◌, List, [], ◌∷◌, Bool, true, false, cond, Option, Some, None, Result, Ok, Err, length, arith, nat_lt}
 use Rattle.std.proofs.lemmas.Bool.{ltb-true}
 use Rattle.std.specs.Str.{bytes_eq}
-use Rattle.load_model.specs.LoadList.{Object, Request, Asked, Found, Known, Brought, IsSound, is_known, first_place, by_id, by_search, by_name, target_of}
+use Rattle.load_model.specs.LoadList.{Object, Request, Asked, Found, Known, Brought, IsSound, is_known, first_place, by_id, by_search, by_name, found_for}
 
 place_cases : (b : Bool) (i j n : ℕ) (rest : Option ℕ) → cond b (Some i) rest ≡ Some j → (rest ≡ Some j → j < suc i + n) → j < i + suc n
 place_cases true i j n rest h k = let e : i ≡ j = cc in omega arith
@@ -45,8 +45,8 @@ module _ {X : Type 0} (too_many : X) (limit : ℕ) (search : List Object → Lis
   few_name objs log r q (Some j) h = let e : Known j ≡ Brought q = cc in cc
   few_name objs log r q None h = few_search objs q (search objs log r) h
 
-  pub target_sound : IsSound (target_of too_many limit search) limit
-  unfolding target_of
+  pub target_sound : IsSound (found_for too_many limit search) limit
+  unfolding found_for
   target_sound = record {
     known = λ objs log r i h. known_name objs log r (first_place (is_known log r.name) 0 objs) i (λ j g. let w = place_within (is_known log r.name) 0 objs j g in omega arith) h;
     brought = λ objs log r o h. few_name objs log r o (first_place (is_known log r.name) 0 objs) h;

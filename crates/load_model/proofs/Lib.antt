@@ -14,6 +14,7 @@ pub mod OneName
 pub mod Ended
 pub mod Loaders
 pub mod Locals
+pub mod AskedNeeds
 pub mod LoadLists
 pub mod DecidingLemmas
 pub mod JoinedLemmas

@@ -2,7 +2,7 @@
 use Rattle.std.proofs.Common.{◌≡◌, ◌∙◌, sym, ap, refl, ℕ, ◌<◌, List, [], ◌∷◌, Option, Some, None, Result, Ok, Err, length, map, slice_get, arith, subst, ◌⊎◌, inl, inr}
 use Rattle.byte_view.specs.declared.flaws.Flaw.{Flaw}
 use Rattle.load_model.specs.Candidates.{loader_in, path_search, refused_text}
-use Rattle.load_model.specs.LoadList.{Object, Request, Asked, Found, Known, Brought, Loaded, count_from, IsSound, IsRun, IsStoppedRun, IsEndedRun, target_of, run, run_ends, with_numbers, up_to}
+use Rattle.load_model.specs.LoadList.{Object, Request, Asked, Found, Known, Brought, Loaded, count_from, IsSound, IsRun, IsStoppedRun, IsEndedRun, found_for, run, run_ends, with_numbers, up_to}
 use Rattle.load_model.specs.Loads.{IsLoadList, IsStopped, answer_unless, goes_to, program_at}
 use Rattle.load_model.specs.Runs.{target_in}
 use Rattle.load_model.specs.World.{World}
@@ -11,6 +11,7 @@ use Rattle.load_model.specs.declared.limits.TheConstants.{MOST_OBJECTS}
 use Rattle.load_model.specs.declared.refusals.LoadRefusal.{LoadRefusal}
 use Rattle.load_model.specs.declared.refusals.LoadRefusal.TheVariants.{TooManyObjects}
 use Rattle.load_model.specs.declared.setting.Setting.{Setting}
+use Rattle.load_model.proofs.AskedNeeds.{IsAsked, all_asked, opened_asked}
 use Rattle.load_model.proofs.Ended.{ended_is, ends_run, ends_stop, one_end, run_of_ends}
 use Rattle.load_model.proofs.History.{IsHistory, run_history, start_history, target_count}
 use Rattle.load_model.proofs.Known.{target_sound}
@@ -26,7 +27,7 @@ module _ (read : List ℕ → Result Face Flaw) (setting : Setting) (world : Wor
 
   -- a request whose text passes goes where the names and the search say
   abbrev plain : List Object → List Asked → Request → Result Found LoadRefusal
-  plain = target_of (TooManyObjects path) MOST_OBJECTS (path_search read setting world)
+  plain = found_for (TooManyObjects path) MOST_OBJECTS (path_search read setting world)
 
   passed_by : (objs : List Object) (log : List Asked) (r : Request) (f : Found) (refused : Option LoadRefusal) → answer_unless read setting world path objs log r refused ≡ Ok f → plain objs log r ≡ Ok f
   passed_by objs log r f None h = h
@@ -176,3 +177,9 @@ module _ (read : List ℕ → Result Face Flaw) (setting : Setting) (world : Wor
 
       pub target_is_loaded : (m : ℕ) (a : Asked) → slice_get loaded.log m ≡ Some a → a.target < length loaded.objs
       target_is_loaded m a g = let below = target_count loaded.log m a g in let whole = hist.whole in omega arith
+
+      pub need_is_asked : (j : ℕ) (o : Object) → slice_get loaded.objs j ≡ Some o → (e : ℕ) (n : List ℕ) → slice_get o.face.needs e ≡ Some n → IsAsked loaded.log j n
+      need_is_asked j o g e n h = (all_asked goes p.program opens loaded (forget p.program opens loaded ends p.run)).asked j o g e n h
+
+      pub opened_is_asked : (k : ℕ) (n : List ℕ) → slice_get opens k ≡ Some n → IsAsked loaded.log 0 n
+      opened_is_asked k n g = opened_asked goes p.program opens loaded (forget p.program opens loaded ends p.run) k n g

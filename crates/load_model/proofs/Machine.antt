@@ -2,7 +2,7 @@
 use Rattle.std.proofs.Common.{◌≡◌, ◌∙◌, sym, ap, refl, ℕ, zero, suc, ◌+◌, ◌≤◌, ◌<◌, List, [], ◌∷◌, ◌++◌, Option, Some, Result, Ok, Err, length, take, drop, map, max, slice_get, arith, subst, ◌⊎◌, inl, inr, append_assoc}
 use Rattle.std.proofs.lemmas.List.{append-nil, take-append-drop, take_all, take_at, take-append-le, drop-append-le, length-append, length-drop, length-take, length-take-le, length_push, map_push}
 use Rattle.std.proofs.lemmas.Option.{slice_get_cases}
-use Rattle.load_model.specs.LoadList.{Object, Request, Asked, Found, Known, Brought, Loaded, count_after, needs_from, requests_of, WentTo, IsAnswered, IsPhase, IsStop, IsRunFrom, IsStopFrom, IsSound, next, with_found, ask, ask_all, ask_of, walk, phase, run_from}
+use Rattle.load_model.specs.LoadList.{Object, Request, Asked, Found, Known, Brought, Loaded, count_after, needs_from, requests_of, WentTo, IsAnswered, IsPhase, IsStop, IsRunFrom, IsStopFrom, IsSound, next, with_found, ask, ask_all, ask_needs, walk, phase, run_from}
 use Rattle.load_model.proofs.Counts.{count_push, count_front, slice_get_left, needs-append}
 use Rattle.load_model.proofs.OneRun.{taken}
 
@@ -168,13 +168,13 @@ module _ {X : Type 0} (answer : List Object → List Asked → Request → Resul
       let same : take e (drop k s.objs) ≡ take (suc e) (drop k s.objs) = take_all e (drop k s.objs) (omega arith) ∙ sym (take_all (suc e) (drop k s.objs) (omega arith)) in
       subst (λ (os : List Object). IsSoFar before s (map (λ n. record { by = 0; name = n }) opening ++ needs_from k os)) same p
 
-  turn : (before s t : Loaded) (opening : List (List ℕ)) (e : ℕ) → IsSoFar before s (so_far_at before opening e s.objs) → ask_of answer s (length before.objs + e) (slice_get s.objs (length before.objs + e)) ≡ Ok t → IsSoFar before t (so_far_at before opening (suc e) t.objs)
+  turn : (before s t : Loaded) (opening : List (List ℕ)) (e : ℕ) → IsSoFar before s (so_far_at before opening e s.objs) → ask_needs answer s (length before.objs + e) (slice_get s.objs (length before.objs + e)) ≡ Ok t → IsSoFar before t (so_far_at before opening (suc e) t.objs)
   turn before s t opening e p h =
       let i = length before.objs + e in
       elim (slice_get_cases s.objs i).1 [
-        | inl w ↦ turn_within before s t opening e w.0 p w.1 w.2 (subst (λ (x : Option Object). ask_of answer s i x ≡ Ok t) w.2 h)
+        | inl w ↦ turn_within before s t opening e w.0 p w.1 w.2 (subst (λ (x : Option Object). ask_needs answer s i x ≡ Ok t) w.2 h)
         | inr w ↦
-            let same : Ok s ≡ Ok t = subst (λ (x : Option Object). ask_of answer s i x ≡ Ok t) w.1 h in
+            let same : Ok s ≡ Ok t = subst (λ (x : Option Object). ask_needs answer s i x ≡ Ok t) w.1 h in
             let is : s ≡ t = cc in
             subst (λ (x : Loaded). IsSoFar before x (so_far_at before opening (suc e) x.objs)) is (turn_past before s opening e p w.0)
       ]
@@ -186,8 +186,8 @@ module _ {X : Type 0} (answer : List Object → List Asked → Request → Resul
       let last : e ≡ m = omega arith in
       subst (λ (x : Loaded). IsSoFar before x (so_far_at before opening m x.objs)) is (subst (λ (x : ℕ). IsSoFar before s (so_far_at before opening x s.objs)) last p)
   walk_keeps (suc f) i e m before s t opening at sum p h =
-      let two = next_ok (ask_of answer s i (slice_get s.objs i)) (λ u. walk answer f (suc i) u) t h in
-      let one = turn before s two.0 opening e p (subst (λ (x : ℕ). ask_of answer s x (slice_get s.objs x) ≡ Ok two.0) at two.1) in
+      let two = next_ok (ask_needs answer s i (slice_get s.objs i)) (λ u. walk answer f (suc i) u) t h in
+      let one = turn before s two.0 opening e p (subst (λ (x : ℕ). ask_needs answer s x (slice_get s.objs x) ≡ Ok two.0) at two.1) in
       walk_keeps f (suc i) (suc e) m before two.0 t opening (omega arith) (omega arith) one two.2
 
   pub phase_is : (before after : Loaded) (opening : List (List ℕ)) → count_after before.log ≡ length before.objs → 0 < length before.objs → length before.objs ≤ limit → phase answer limit before opening ≡ Ok after → IsPhase answer before opening after × (length after.objs ≤ limit)
@@ -334,15 +334,15 @@ module _ {X : Type 0} (answer : List Object → List Asked → Request → Resul
   unfolding walk
   walk_stops zero i e before s opening stop at p h = cc
   walk_stops (suc f) i e before s opening stop at p h =
-      elim (next_err (ask_of answer s i (slice_get s.objs i)) (λ u. walk answer f (suc i) u) stop h) [
+      elim (next_err (ask_needs answer s i (slice_get s.objs i)) (λ u. walk answer f (suc i) u) stop h) [
         | inl w ↦
-            let here : ask_of answer s (length before.objs + e) (slice_get s.objs (length before.objs + e)) ≡ Err stop = subst (λ (x : ℕ). ask_of answer s x (slice_get s.objs x) ≡ Err stop) at w in
+            let here : ask_needs answer s (length before.objs + e) (slice_get s.objs (length before.objs + e)) ≡ Err stop = subst (λ (x : ℕ). ask_needs answer s x (slice_get s.objs x) ≡ Err stop) at w in
             elim (slice_get_cases s.objs (length before.objs + e)).1 [
-              | inl v ↦ turn_stops before s opening e v.0 stop p v.1 v.2 (subst (λ (x : Option Object). ask_of answer s (length before.objs + e) x ≡ Err stop) v.2 here)
-              | inr v ↦ let no : Ok s ≡ Err stop = subst (λ (x : Option Object). ask_of answer s (length before.objs + e) x ≡ Err stop) v.1 here in cc
+              | inl v ↦ turn_stops before s opening e v.0 stop p v.1 v.2 (subst (λ (x : Option Object). ask_needs answer s (length before.objs + e) x ≡ Err stop) v.2 here)
+              | inr v ↦ let no : Ok s ≡ Err stop = subst (λ (x : Option Object). ask_needs answer s (length before.objs + e) x ≡ Err stop) v.1 here in cc
             ]
         | inr two ↦
-            walk_stops f (suc i) (suc e) before two.0 opening stop (omega arith) (turn before s two.0 opening e p (subst (λ (x : ℕ). ask_of answer s x (slice_get s.objs x) ≡ Ok two.0) at two.1)) two.2
+            walk_stops f (suc i) (suc e) before two.0 opening stop (omega arith) (turn before s two.0 opening e p (subst (λ (x : ℕ). ask_needs answer s x (slice_get s.objs x) ≡ Ok two.0) at two.1)) two.2
       ]
 
   nothing : (before : Loaded) → count_after before.log ≡ length before.objs → length before.objs ≤ limit → IsSoFar before before []

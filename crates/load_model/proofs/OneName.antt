@@ -5,7 +5,7 @@ use Rattle.std.proofs.lemmas.Bool.{or_right, cases_Bool, cases_lt, both_ways}
 use Rattle.std.specs.List.{list_any}
 use Rattle.std.proofs.lemmas.Cmp.{nat_list_eq_equiv}
 use Rattle.std.proofs.lemmas.Option.{slice_get_within}
-use Rattle.load_model.specs.LoadList.{Object, Request, Asked, Found, Known, Brought, count_after, WentTo, IsAnswered, is_named, is_known, first_place, by_name, target_of}
+use Rattle.load_model.specs.LoadList.{Object, Request, Asked, Found, Known, Brought, count_after, WentTo, IsAnswered, is_named, is_known, first_place, by_name, found_for}
 use Rattle.load_model.specs.Runs.{target_in}
 use Rattle.load_model.proofs.OneRun.{there}
 use Rattle.load_model.proofs.Places.{slice_get-take, slice_get_front, none_passes}
@@ -49,8 +49,8 @@ module _ {X : Type 0} (too_many : X) (limit : ℕ) (search : List Object → Lis
   known_name objs log r f None h = inl refl
   known_name objs log r f (Some t) h = inr (t, refl, let e : f ≡ Known t = cc in e)
 
-  known_or_not : (objs : List Object) (log : List Asked) (r : Request) (f : Found) → target_of too_many limit search objs log r ≡ Ok f → (first_place (is_known log r.name) 0 objs ≡ None) ⊎ ((t : ℕ) × (first_place (is_known log r.name) 0 objs ≡ Some t) × (f ≡ Known t))
-  unfolding target_of
+  known_or_not : (objs : List Object) (log : List Asked) (r : Request) (f : Found) → found_for too_many limit search objs log r ≡ Ok f → (first_place (is_known log r.name) 0 objs ≡ None) ⊎ ((t : ℕ) × (first_place (is_known log r.name) 0 objs ≡ Some t) × (f ≡ Known t))
+  unfolding found_for
   known_or_not objs log r f h = known_name objs log r f (first_place (is_known log r.name) 0 objs) h
 
   known_target : (objs : List Object) (c u : ℕ) (f : Found) (t : ℕ) → f ≡ Known t → WentTo objs c u f → u ≡ t
@@ -58,7 +58,7 @@ module _ {X : Type 0} (too_many : X) (limit : ℕ) (search : List Object → Lis
   known_target objs c u (Brought o) t e p = cc
 
   -- an object for which the name of a request is known at that point: the target is it, or one before it
-  no_later : (objs : List Object) (before : List Asked) (a : Asked) → IsAnswered (target_of too_many limit search) objs before a → (j : ℕ) (x : Object) → j < count_after before → slice_get objs j ≡ Some x → is_known before a.request.name j x ≡ true → IsFirst (is_known before a.request.name) 0 a.target (take (count_after before) objs) × (a.target ≤ j)
+  no_later : (objs : List Object) (before : List Asked) (a : Asked) → IsAnswered (found_for too_many limit search) objs before a → (j : ℕ) (x : Object) → j < count_after before → slice_get objs j ≡ Some x → is_known before a.request.name j x ≡ true → IsFirst (is_known before a.request.name) 0 a.target (take (count_after before) objs) × (a.target ≤ j)
   no_later objs before a r j x b g k =
       let c = count_after before in
       let front = slice_get_front c objs j x b g in
@@ -73,7 +73,7 @@ module _ {X : Type 0} (too_many : X) (limit : ℕ) (search : List Object → Lis
             (first, omega arith)
       ]
 
-  module _ (objs : List Object) (log : List Asked) (h : IsHistory (target_of too_many limit search) objs log) where
+  module _ (objs : List Object) (log : List Asked) (h : IsHistory (found_for too_many limit search) objs log) where
     abbrev IsOneBelow : ℕ → Type 0
     IsOneBelow m = (i j : ℕ) (a b : Asked) → i < m → j < m → slice_get log i ≡ Some a → slice_get log j ≡ Some b → a.request.name ≡ b.request.name → a.target ≡ b.target
 

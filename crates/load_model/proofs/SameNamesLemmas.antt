@@ -10,7 +10,7 @@ use Rattle.path_text.specs.Path.{IsNormalPath}
 use Rattle.load_model.specs.Candidates.{Candidate, At, IsOpenedIn, asker_path, decided_by, decision, first_found, found_or, listed_candidates, loader_in, path_search, refused_text}
 use Rattle.load_model.specs.Deciding.{IsUpToDeciding}
 use Rattle.load_model.specs.Joined.{joined}
-use Rattle.load_model.specs.LoadList.{Object, Request, Asked, Found, Brought, Loaded, count_after, IsAnswered, IsPhase, IsRun, IsEndedRun, Search, by_id, by_name, by_search, first_place, is_known, target_of, AreAlike}
+use Rattle.load_model.specs.LoadList.{Object, Request, Asked, Found, Brought, Loaded, count_after, IsAnswered, IsPhase, IsRun, IsEndedRun, Search, by_id, by_name, by_search, first_place, is_known, found_for, AreAlike}
 use Rattle.load_model.specs.Loads.{IsLoadList, answer_unless, goes_to, program_at, program_by}
 use Rattle.load_model.specs.SameNames.{HasNoRunPath, HasObject, IsByNames, IsCarried, IsCopyOrAskedFor, IsListedUpTo, LoadsAlike, copied, found_instead, key_of, listed_decision, loaded_there, object_there, objects_there}
 use Rattle.load_model.specs.World.{World, Kind, Absent, Other, Object as IsObject, Damaged as IsDamaged, file_at, is_other, kind_of, kind_of_file, kind_of_read}
@@ -66,13 +66,13 @@ module _ (x y : LoadRefusal) (limit : ℕ) (search : Search LoadRefusal) where
   name_ok objs log r None f h = search_ok objs (search objs log r) f h
   name_ok objs log r (Some j) f h = h
 
-  target_ok : (objs : List Object) (log : List Asked) (r : Request) (f : Found) → target_of x limit search objs log r ≡ Ok f → target_of y limit search objs log r ≡ Ok f
-  unfolding target_of
+  target_ok : (objs : List Object) (log : List Asked) (r : Request) (f : Found) → found_for x limit search objs log r ≡ Ok f → found_for y limit search objs log r ≡ Ok f
+  unfolding found_for
   target_ok objs log r f h = name_ok objs log r (first_place (is_known log r.name) 0 objs) f h
 
 module _ (read : List ℕ → Result Face Flaw) (setting : Setting) (world : World) where
   abbrev target : List ℕ → List Object → List Asked → Request → Result Found LoadRefusal
-  target program = target_of (TooManyObjects program) MOST_OBJECTS (path_search read setting world)
+  target program = found_for (TooManyObjects program) MOST_OBJECTS (path_search read setting world)
 
   text_ok : (program : List ℕ) (objs : List Object) (log : List Asked) (r : Request) (o : Option LoadRefusal) (f : Found) → answer_unless read setting world program objs log r o ≡ Ok f → target program objs log r ≡ Ok f
   text_ok program objs log r None f h = h

@@ -7,7 +7,7 @@ use Rattle.std.specs.Cmp.Lexicographic.{same_text}
 use Rattle.std.proofs.lemmas.Cmp.{nat_list_eq_equiv}
 use Rattle.std.proofs.lemmas.List.{take-append-drop, length-take-le, length-drop}
 use Rattle.std.proofs.lemmas.Option.{slice_get_within}
-use Rattle.load_model.specs.LoadList.{Object, Request, Asked, Found, Known, Brought, Loaded, count_from, count_after, needs_from, WentTo, IsAnswered, IsPhase, IsRun, is_named, is_known, first_place, by_id, by_search, by_name, target_of, GoesByKey, AreAlike}
+use Rattle.load_model.specs.LoadList.{Object, Request, Asked, Found, Known, Brought, Loaded, count_from, count_after, needs_from, WentTo, IsAnswered, IsPhase, IsRun, is_named, is_known, first_place, by_id, by_search, by_name, found_for, GoesByKey, AreAlike}
 use Rattle.load_model.proofs.Counts.{count_push, count_front}
 use Rattle.load_model.proofs.OneRun.{taken, there}
 use Rattle.load_model.proofs.Machine.{slice_get-drop}
@@ -54,16 +54,16 @@ module _ {X : Type 0} (too_many : X) (limit : ℕ) (search_here : List Object �
   brought_name objs log r q None h = (refl, brought_search objs q (search_here objs log r) h)
 
   -- an object is brought by a name by which no other is known, and where there is room
-  pub brought_new : (objs : List Object) (log : List Asked) (r : Request) (q : Object) → target_of too_many limit search_here objs log r ≡ Ok (Brought q) → (first_place (is_known log r.name) 0 objs ≡ None) × (nat_lt (length objs) limit ≡ true)
-  unfolding target_of
+  pub brought_new : (objs : List Object) (log : List Asked) (r : Request) (q : Object) → found_for too_many limit search_here objs log r ≡ Ok (Brought q) → (first_place (is_known log r.name) 0 objs ≡ None) × (nat_lt (length objs) limit ≡ true)
+  unfolding found_for
   brought_new objs log r q h = brought_name objs log r q (first_place (is_known log r.name) 0 objs) h
 
-  pub by_known : (objs : List Object) (log : List Asked) (r : Request) (t : ℕ) → first_place (is_known log r.name) 0 objs ≡ Some t → target_of too_many limit search_here objs log r ≡ Ok (Known t)
-  unfolding target_of
+  pub by_known : (objs : List Object) (log : List Asked) (r : Request) (t : ℕ) → first_place (is_known log r.name) 0 objs ≡ Some t → found_for too_many limit search_here objs log r ≡ Ok (Known t)
+  unfolding found_for
   by_known objs log r t h = ap (λ p. by_name too_many limit search_here objs log r p) h
 
-  pub by_new : (objs : List Object) (log : List Asked) (r : Request) (o : Object) → first_place (is_known log r.name) 0 objs ≡ None → search_here objs log r ≡ Ok o → first_place (λ j x. bytes_eq x.id o.id) 0 objs ≡ None → nat_lt (length objs) limit ≡ true → target_of too_many limit search_here objs log r ≡ Ok (Brought o)
-  unfolding target_of
+  pub by_new : (objs : List Object) (log : List Asked) (r : Request) (o : Object) → first_place (is_known log r.name) 0 objs ≡ None → search_here objs log r ≡ Ok o → first_place (λ j x. bytes_eq x.id o.id) 0 objs ≡ None → nat_lt (length objs) limit ≡ true → found_for too_many limit search_here objs log r ≡ Ok (Brought o)
+  unfolding found_for
   by_new objs log r o h s i room =
       ap (λ p. by_name too_many limit search_here objs log r p) h ∙ ap (λ x. by_search too_many limit search_here objs x) s ∙ ap (λ p. by_id too_many limit search_here objs o p) i ∙ ap (λ b. cond b (Ok (Brought o)) (Err too_many)) room
 
@@ -83,7 +83,7 @@ pub front_one : (xs : List Object) (q : Object) → slice_get xs 0 ≡ Some q �
 front_one [] q h = cc
 front_one (x ∷ xs) q h = let e : x ≡ q = cc in ap (λ y. y ∷ []) e
 
-module _ {X : Type 0} (too_many : X) (limit : ℕ) (search_here search_there : List Object → List Asked → Request → Result Object X) (key : Object → List ℕ) (objs objs_there : List Object) (log : List Asked) (answered : (m : ℕ) (a : Asked) → slice_get log m ≡ Some a → IsAnswered (target_of too_many limit search_here) objs (take m log) a) (goes : GoesByKey key objs log) (size : count_after log ≡ length objs) where
+module _ {X : Type 0} (too_many : X) (limit : ℕ) (search_here search_there : List Object → List Asked → Request → Result Object X) (key : Object → List ℕ) (objs objs_there : List Object) (log : List Asked) (answered : (m : ℕ) (a : Asked) → slice_get log m ≡ Some a → IsAnswered (found_for too_many limit search_here) objs (take m log) a) (goes : GoesByKey key objs log) (size : count_after log ≡ length objs) where
   count_at : (m : ℕ) → count_after (take m log) ≤ length objs
   count_at m = let le = count_front (take m log) (drop m log) in let all = ap count_after (take-append-drop m log) in omega arith
 
@@ -101,7 +101,7 @@ module _ {X : Type 0} (too_many : X) (limit : ℕ) (search_here search_there : L
         | inr b ↦ (m, a.0, omega arith, a.1, omega arith, omega arith)
       ]
 
-  apart_found : (i' i : ℕ) (a : Asked) (x : Object) (f : Found) → slice_get log i' ≡ Some a → i' ≤ length log → 0 < i → i < a.target → a.target ≡ count_after (take i' log) → slice_get objs i ≡ Some x → key x ≡ a.request.name → target_of too_many limit search_here (take (count_after (take i' log)) objs) (take i' log) a.request ≡ Ok f → WentTo objs (count_after (take i' log)) a.target f → ⊥
+  apart_found : (i' i : ℕ) (a : Asked) (x : Object) (f : Found) → slice_get log i' ≡ Some a → i' ≤ length log → 0 < i → i < a.target → a.target ≡ count_after (take i' log) → slice_get objs i ≡ Some x → key x ≡ a.request.name → found_for too_many limit search_here (take (count_after (take i' log)) objs) (take i' log) a.request ≡ Ok f → WentTo objs (count_after (take i' log)) a.target f → ⊥
   apart_found i' i a x (Known k) g le some below here gx same is t =
       let e : a.target ≡ k = t.0 in
       let b : k < count_after (take i' log) = t.1 in
@@ -158,7 +158,7 @@ module _ {X : Type 0} (too_many : X) (limit : ℕ) (search_here search_there : L
           | inr t ↦ named_there j n x y gx gy t
         ]
 
-    room : (m : ℕ) (a : Asked) (f : Found) → target_of too_many limit search_here (take (count_after (take m log)) objs) (take m log) a.request ≡ Ok f → WentTo objs (count_after (take m log)) a.target f → count_after (take m log) ≤ a.target → nat_lt (count_after (take m log)) limit ≡ true
+    room : (m : ℕ) (a : Asked) (f : Found) → found_for too_many limit search_here (take (count_after (take m log)) objs) (take m log) a.request ≡ Ok f → WentTo objs (count_after (take m log)) a.target f → count_after (take m log) ≤ a.target → nat_lt (count_after (take m log)) limit ≡ true
     room m a (Known k) is t past = let e : a.target ≡ k = t.0 in let b : k < count_after (take m log) = t.1 in absurd (omega arith)
     room m a (Brought o) is t past =
         let c = count_after (take m log) in
@@ -182,7 +182,7 @@ module _ {X : Type 0} (too_many : X) (limit : ℕ) (search_here search_there : L
         let no_more : a.target < j → ⊥ = λ b. keys_apart (suc m) a.target j k.0 x.0 le some_target b (omega arith) k.1 x.1 (sym same) in
         omega arith
 
-    known_target : (m : ℕ) (a : Asked) → slice_get log m ≡ Some a → a.target < count_after (take m log) → target_of too_many limit search_there (take (count_after (take m log)) objs_there) (take m log) a.request ≡ Ok (Known a.target)
+    known_target : (m : ℕ) (a : Asked) → slice_get log m ≡ Some a → a.target < count_after (take m log) → found_for too_many limit search_there (take (count_after (take m log)) objs_there) (take m log) a.request ≡ Ok (Known a.target)
     known_target m a g b =
         let c = count_after (take m log) in
         let k = goes.by_key m a g in
@@ -200,7 +200,7 @@ module _ {X : Type 0} (too_many : X) (limit : ℕ) (search_here search_there : L
         (first_some (is_known (take m log) a.request.name) a.target o.0 (take c objs_there) (slice_get_front c objs_there a.target o.0 b o.1) known
         (λ j y gy h. let t = slice_get-take c objs_there j y gy in only_key m a g j y t.0 t.1 h))
 
-    new_target : (m : ℕ) (a : Asked) (o : Object) → slice_get log m ≡ Some a → count_after (take m log) ≡ a.target → slice_get objs_there a.target ≡ Some o → target_of too_many limit search_there (take (count_after (take m log)) objs_there) (take m log) a.request ≡ Ok (Brought o)
+    new_target : (m : ℕ) (a : Asked) (o : Object) → slice_get log m ≡ Some a → count_after (take m log) ≡ a.target → slice_get objs_there a.target ≡ Some o → found_for too_many limit search_there (take (count_after (take m log)) objs_there) (take m log) a.request ≡ Ok (Brought o)
     new_target m a o g e go =
         let c = count_after (take m log) in
         let k = goes.by_key m a g in
@@ -226,7 +226,7 @@ module _ {X : Type 0} (too_many : X) (limit : ℕ) (search_here search_there : L
         (first_none (λ j x. bytes_eq x.id o.id) (take c objs_there) fail_id)
         room_there
 
-    answered_there : (m : ℕ) (a : Asked) → slice_get log m ≡ Some a → IsAnswered (target_of too_many limit search_there) objs_there (take m log) a
+    answered_there : (m : ℕ) (a : Asked) → slice_get log m ≡ Some a → IsAnswered (found_for too_many limit search_there) objs_there (take m log) a
     answered_there m a g =
         let r = answered m a g in
         let k = goes.by_key m a g in
@@ -242,7 +242,7 @@ module _ {X : Type 0} (too_many : X) (limit : ℕ) (search_here search_there : L
         ]
 
 module _ {X : Type 0} (too_many : X) (limit : ℕ) (search_here search_there : List Object → List Asked → Request → Result Object X) (key : Object → List ℕ) (p q : Object) (objs_there : List Object) where
-  one_phase : (here : Loaded) → IsPhase (target_of too_many limit search_here) (record { objs = p ∷ []; log = [] }) p.face.needs here → GoesByKey key here.objs here.log → AreAlike search_there key here.objs objs_there → slice_get objs_there 0 ≡ Some q → IsPhase (target_of too_many limit search_there) (record { objs = q ∷ []; log = [] }) q.face.needs (record { objs = objs_there; log = here.log })
+  one_phase : (here : Loaded) → IsPhase (found_for too_many limit search_here) (record { objs = p ∷ []; log = [] }) p.face.needs here → GoesByKey key here.objs here.log → AreAlike search_there key here.objs objs_there → slice_get objs_there 0 ≡ Some q → IsPhase (found_for too_many limit search_there) (record { objs = q ∷ []; log = [] }) q.face.needs (record { objs = objs_there; log = here.log })
   one_phase here w goes alike first =
       let log : here.log ≡ w.more = w.log in
       let start : slice_get here.objs 0 ≡ Some p = (slice_get-take 1 here.objs 0 p (ap (λ os. slice_get os 0) w.objs)).1 in
@@ -261,6 +261,6 @@ module _ {X : Type 0} (too_many : X) (limit : ℕ) (search_here search_there : L
         whole = w.whole ∙ sym alike.count;
       }
 
-  pub same_run : (here : Loaded) → IsRun (target_of too_many limit search_here) p [] here → GoesByKey key here.objs here.log → AreAlike search_there key here.objs objs_there → slice_get objs_there 0 ≡ Some q → IsRun (target_of too_many limit search_there) q [] (record { objs = objs_there; log = here.log })
+  pub same_run : (here : Loaded) → IsRun (found_for too_many limit search_here) p [] here → GoesByKey key here.objs here.log → AreAlike search_there key here.objs objs_there → slice_get objs_there 0 ≡ Some q → IsRun (found_for too_many limit search_there) q [] (record { objs = objs_there; log = here.log })
   same_run here w goes alike first =
-      (record { objs = objs_there; log = here.log }, one_phase here (subst (λ (s : Loaded). IsPhase (target_of too_many limit search_here) (record { objs = p ∷ []; log = [] }) p.face.needs s) (sym w.2) w.1) goes alike first, refl)
+      (record { objs = objs_there; log = here.log }, one_phase here (subst (λ (s : Loaded). IsPhase (found_for too_many limit search_here) (record { objs = p ∷ []; log = [] }) p.face.needs s) (sym w.2) w.1) goes alike first, refl)

@@ -1,5 +1,5 @@
--- Where a name is looked for: the candidates of a request in order, and the first that decides (ld.so(8), in this
--- profile).
+-- Where a name is looked for: the candidates of a request in order, and the first that decides
+-- (ld.so(8), in this profile).
 use Rattle.std.specs.Prelude.{ℕ, zero, suc, List, [], ◌∷◌, ◌++◌, Bool, false, cond, ◌≡◌, ◌==◌, ◌⊎◌, Option, Some, None, Result, Ok, Err, length, map, slice_get, take}
 use Rattle.std.specs.List.{flat_map, list_any}
 use Rattle.answers.specs.First.{first_some}
@@ -19,13 +19,14 @@ unfoldable pub loader_in : List Asked → ℕ → ℕ
 loader_in [] j = 0
 loader_in (a ∷ log) j = cond (a.target == j) a.request.by (loader_in log j)
 
--- An object, its loader, that one's loader and so on, up to the program. `loader` gives the loader of each, and `most`
--- bounds their number.
+-- An object, its loader, that one's loader and so on, up to the program. `loader` gives the loader
+-- of each, and `most` bounds their number.
 unfoldable pub chain : ℕ → (ℕ → ℕ) → ℕ → List ℕ
 chain zero loader j = j ∷ []
 chain (suc most) loader j = cond (j == 0) (0 ∷ []) (j ∷ chain most loader (loader j))
 
--- The items of a run path of an object, where it has one; `$ORIGIN` is the folder of the path under which it was found.
+-- The items of a run path of an object, where it has one; `$ORIGIN` is the folder of the path under
+-- which it was found.
 abbrev pub items_held : Setting → List ℕ → Option (List ℕ) → List Item
 items_held setting path None = []
 items_held setting path (Some text) = items_of setting (folder_of path) text
@@ -44,7 +45,8 @@ rpath_items setting (Some o) = rpath_by setting o o.face.runpath
 
 -- Where an object without RUNPATH looks first: the RPATH of each object of its chain.
 abbrev pub chain_items : Setting → List Object → (ℕ → ℕ) → ℕ → List Item
-chain_items setting objs loader j = flat_map (λ k. rpath_items setting (slice_get objs k)) (chain (length objs) loader j)
+chain_items setting objs loader j =
+    flat_map (λ k. rpath_items setting (slice_get objs k)) (chain (length objs) loader j)
 
 -- An object looks in its RUNPATH, or where it has none in the RPATH along its chain.
 abbrev pub items_by : Setting → List Object → (ℕ → ℕ) → ℕ → Object → Option (List ℕ) → List Item
@@ -60,7 +62,8 @@ abbrev pub listed_items : Setting → List Item
 listed_items setting = map (λ dir. Folder dir) setting.dirs
 
 unfoldable pub search_items : Setting → List Object → (ℕ → ℕ) → ℕ → List Item
-search_items setting objs loader j = own_items setting objs loader j (slice_get objs j) ++ listed_items setting
+search_items setting objs loader j =
+    own_items setting objs loader j (slice_get objs j) ++ listed_items setting
 
 -- A candidate is a path, or an item that is refused once the search reaches it.
 pub data Candidate : Type 0 where
@@ -113,7 +116,8 @@ module _ (read : List ℕ → Result Face Flaw) (setting : Setting) (world : Wor
   decided_by path Absent = None
   decided_by path Other = None
   decided_by path (IsDamaged file flaw) = Some (Err (Damaged path flaw))
-  decided_by path (IsObject file face) = Some (Ok (record { path = path; id = file.id; face = face }))
+  decided_by path (IsObject file face) =
+      Some (Ok (record { path = path; id = file.id; face = face }))
 
   unfoldable pub decision : Candidate → Option (Result Object LoadRefusal)
   decision (At path) = decided_by path (kind_of read setting.machine world path)
@@ -131,9 +135,11 @@ module _ (read : List ℕ → Result Face Flaw) (setting : Setting) (world : Wor
   first_found missing cs = found_or missing (first_decision cs)
 
   unfoldable pub path_search : List Object → List Asked → Request → Result Object LoadRefusal
-  path_search objs log r = first_found (MissingLibrary r.name (asker_path objs r)) (candidates setting objs (loader_in log) r)
+  path_search objs log r =
+      first_found (MissingLibrary r.name (asker_path objs r)) (candidates setting objs (loader_in log) r)
 
-  -- The paths that a search opens: each candidate of a kind other than Absent, up to the one that decides.
+  -- The paths that a search opens: each candidate of a kind other than Absent, up to the one that
+  -- decides.
   abbrev pub opened_by : List ℕ → Kind Face Flaw → List (List ℕ) → List (List ℕ)
   opened_by path Absent more = more
   opened_by path Other more = path ∷ more
@@ -143,16 +149,19 @@ module _ (read : List ℕ → Result Face Flaw) (setting : Setting) (world : Wor
   unfoldable pub opened_among : List Candidate → List (List ℕ)
   opened_among [] = []
   opened_among (Refused refusal ∷ cs) = []
-  opened_among (At path ∷ cs) = opened_by path (kind_of read setting.machine world path) (opened_among cs)
+  opened_among (At path ∷ cs) =
+      opened_by path (kind_of read setting.machine world path) (opened_among cs)
 
   -- A name that is known is not searched for, nor one whose text is refused.
-  abbrev pub opened_by_name : List Object → List Asked → Request → Option LoadRefusal → Option ℕ → List (List ℕ)
+  abbrev pub opened_by_name : List Object → List Asked → Request → Option LoadRefusal → Option ℕ
+      → List (List ℕ)
   opened_by_name objs log r (Some refusal) known = []
   opened_by_name objs log r None (Some j) = []
   opened_by_name objs log r None None = opened_among (candidates setting objs (loader_in log) r)
 
   unfoldable pub opened_for : List Object → List Asked → Request → List (List ℕ)
-  opened_for objs log r = opened_by_name objs log r (refused_text objs r) (first_place (is_known log r.name) 0 objs)
+  opened_for objs log r =
+      opened_by_name objs log r (refused_text objs r) (first_place (is_known log r.name) 0 objs)
 
   -- The request of this number opens the path, when so much is loaded and asked as was before it.
   pub record IsOpenedFor (run : Loaded) (path : List ℕ) : Type 0 where

@@ -1,7 +1,7 @@
--- The load list of a program and the names that it opens, as a property of whole lists. A request is a name asked for
--- by an object. The start phase asks for all needs of the objects in load order; then each opened name is a phase: the
--- name, asked for by the program, followed by the needs of the objects that this phase brought. X is why a request has
--- no target.
+-- The load list of a program and the names that it opens, as a property of whole lists. A request
+-- is a name asked for by an object. The start phase asks for all needs of the objects in load
+-- order; then each opened name is a phase: the name, asked for by the program, followed by the
+-- needs of the objects that this phase brought. X is why a request has no target.
 use Rattle.std.specs.Prelude.{ℕ, zero, suc, List, [], ◌∷◌, ◌++◌, Bool, true, false, cond, ◌≡◌, ◌<◌, Option, Some, None, Result, Ok, Err, length, take, drop, map, max, slice_get, ◌==◌, ◌&&◌, ◌||◌, nat_lt, ◌⊎◌}
 use Rattle.std.specs.List.{list_any}
 use Rattle.std.specs.Str.{bytes_eq}
@@ -46,9 +46,11 @@ abbrev pub needs_from : ℕ → List Object → List Request
 needs_from i [] = []
 needs_from i (o ∷ os) = map (λ n. record { by = i; name = n }) o.face.needs ++ needs_from (suc i) os
 
--- the requests of a phase: the names that the program opens, and the needs of each object from the i-th on
+-- the requests of a phase: the names that the program opens, and the needs of each object from the
+-- i-th on
 abbrev pub requests_of : List (List ℕ) → ℕ → List Object → List Request
-requests_of opening i objs = map (λ n. record { by = 0; name = n }) opening ++ needs_from i (drop i objs)
+requests_of opening i objs =
+    map (λ n. record { by = 0; name = n }) opening ++ needs_from i (drop i objs)
 
 -- the request went to this object: one of the first count, or else the next one
 abbrev pub WentTo : List Object → ℕ → ℕ → Found → Type 0
@@ -62,10 +64,23 @@ next (Err x) f = Err x
 
 -- after a request
 abbrev pub with_found : Loaded → Request → Found → Loaded
-with_found s r (Known i) = record { objs = s.objs; log = s.log ++ record { request = r; target = i } ∷ [] }
-with_found s r (Brought o) = record { objs = s.objs ++ o ∷ []; log = s.log ++ record { request = r; target = length s.objs } ∷ [] }
+with_found s r (Known i) =
+    record { objs = s.objs; log = s.log ++ record { request = r; target = i } ∷ [] }
+with_found s r (Brought o) =
+    record {
+      objs = s.objs ++ o ∷ [];
+      log = s.log ++ record { request = r; target = length s.objs } ∷ [];
+    }
 
--- `answer objs log request`: where a request goes, from the objects that are loaded and all that was asked before
+-- the program alone, and what each phase opens: the needs of the program, and then one name each
+abbrev pub start_of : Object → Loaded
+start_of program = record { objs = program ∷ []; log = [] }
+
+abbrev pub phases_of : Object → List (List ℕ) → List (List (List ℕ))
+phases_of program opens = program.face.needs ∷ map (λ n. n ∷ []) opens
+
+-- `answer objs log request`: where a request goes, from the objects that are loaded and all that
+-- was asked before
 module _ {X : Type 0} (answer : List Object → List Asked → Request → Result Found X) where
   -- a request of the run, after these: one of an object that is loaded, and it went where it goes
   pub record IsAnswered (objs : List Object) (before : List Asked) (a : Asked) : Type 0 where
@@ -74,7 +89,8 @@ module _ {X : Type 0} (answer : List Object → List Asked → Request → Resul
     pub found_is : answer (take (count_after before) objs) before a.request ≡ Ok found
     pub target : WentTo objs (count_after before) a.target found
 
-  -- a part of a phase: what was loaded stays in front; the requests were asked in order up to those that are left; each object is a target
+  -- a part of a phase: what was loaded stays in front; the requests were asked in order up to those
+  -- that are left; each object is a target
   pub record IsPart (before : Loaded) (opening : List (List ℕ)) (at : Loaded) (left : List Request) : Type 0 where
     pub objs : take (length before.objs) at.objs ≡ before.objs
     pub more : List Asked
@@ -97,20 +113,25 @@ module _ {X : Type 0} (answer : List Object → List Asked → Request → Resul
   -- a run: the program alone, then the phase of its needs, and then one for each opened name
   abbrev pub IsRunFrom : Loaded → List (List (List ℕ)) → Loaded → Type 0
   IsRunFrom before [] after = after ≡ before
-  IsRunFrom before (opening ∷ openings) after = (mid : Loaded) × IsPhase before opening mid × IsRunFrom mid openings after
+  IsRunFrom before (opening ∷ openings) after =
+      (mid : Loaded) × IsPhase before opening mid × IsRunFrom mid openings after
 
   abbrev pub IsRun : Object → List (List ℕ) → Loaded → Type 0
-  IsRun program opens after = IsRunFrom (record { objs = program ∷ []; log = [] }) (program.face.needs ∷ map (λ n. n ∷ []) opens) after
+  IsRun program opens after =
+      IsRunFrom (start_of program) (phases_of program opens) after
 
-  -- a run with what was loaded and asked at the end of each of its phases: of the start, and of each opened name
+  -- a run with what was loaded and asked at the end of each of its phases: of the start, and of
+  -- each opened name
   abbrev pub IsEndedFrom : Loaded → List (List (List ℕ)) → Loaded → List Loaded → Type 0
   IsEndedFrom before [] after [] = after ≡ before
   IsEndedFrom before [] after (end ∷ ends) = ⊥
   IsEndedFrom before (opening ∷ openings) after [] = ⊥
-  IsEndedFrom before (opening ∷ openings) after (end ∷ ends) = IsPhase before opening end × IsEndedFrom end openings after ends
+  IsEndedFrom before (opening ∷ openings) after (end ∷ ends) =
+      IsPhase before opening end × IsEndedFrom end openings after ends
 
   abbrev pub IsEndedRun : Object → List (List ℕ) → Loaded → List Loaded → Type 0
-  IsEndedRun program opens after ends = IsEndedFrom (record { objs = program ∷ []; log = [] }) (program.face.needs ∷ map (λ n. n ∷ []) opens) after ends
+  IsEndedRun program opens after ends =
+      IsEndedFrom (start_of program) (phases_of program opens) after ends
 
   -- a run that stops in one of its phases, where the ones before are whole
   abbrev pub IsStopFrom : Loaded → List (List (List ℕ)) → X → Type 0
@@ -119,7 +140,8 @@ module _ {X : Type 0} (answer : List Object → List Asked → Request → Resul
       ((at : Loaded) × IsStop before opening at stop) ⊎ ((mid : Loaded) × IsPhase before opening mid × IsStopFrom mid openings stop)
 
   abbrev pub IsStoppedRun : Object → List (List ℕ) → X → Type 0
-  IsStoppedRun program opens stop = IsStopFrom (record { objs = program ∷ []; log = [] }) (program.face.needs ∷ map (λ n. n ∷ []) opens) stop
+  IsStoppedRun program opens stop =
+      IsStopFrom (start_of program) (phases_of program opens) stop
 
   -- the same by recursion
   abbrev pub ask : Loaded → Request → Result Loaded X
@@ -129,31 +151,37 @@ module _ {X : Type 0} (answer : List Object → List Asked → Request → Resul
   ask_all s [] = Ok s
   ask_all s (r ∷ rs) = next (ask s r) (λ t. ask_all t rs)
 
-  abbrev pub ask_of : Loaded → ℕ → Option Object → Result Loaded X
-  ask_of s i None = Ok s
-  ask_of s i (Some o) = ask_all s (map (λ n. record { by = i; name = n }) o.face.needs)
+  abbrev pub ask_needs : Loaded → ℕ → Option Object → Result Loaded X
+  ask_needs s i None = Ok s
+  ask_needs s i (Some o) = ask_all s (map (λ n. record { by = i; name = n }) o.face.needs)
 
   unfoldable pub walk : ℕ → ℕ → Loaded → Result Loaded X
   walk zero i s = Ok s
-  walk (suc k) i s = next (ask_of s i (slice_get s.objs i)) (λ t. walk k (suc i) t)
+  walk (suc k) i s = next (ask_needs s i (slice_get s.objs i)) (λ t. walk k (suc i) t)
 
   unfoldable pub phase : ℕ → Loaded → List (List ℕ) → Result Loaded X
-  phase limit s opening = next (ask_all s (map (λ n. record { by = 0; name = n }) opening)) (λ t. walk limit (length s.objs) t)
+  phase limit s opening =
+      next (ask_all s (map (λ n. record { by = 0; name = n }) opening))
+      (λ t. walk limit (length s.objs) t)
 
   abbrev pub run_from : ℕ → Loaded → List (List (List ℕ)) → Result Loaded X
   run_from limit s [] = Ok s
-  run_from limit s (opening ∷ openings) = next (phase limit s opening) (λ t. run_from limit t openings)
+  run_from limit s (opening ∷ openings) =
+      next (phase limit s opening) (λ t. run_from limit t openings)
 
   abbrev pub run : ℕ → Object → List (List ℕ) → Result Loaded X
-  run limit program opens = run_from limit (record { objs = program ∷ []; log = [] }) (program.face.needs ∷ map (λ n. n ∷ []) opens)
+  run limit program opens =
+      run_from limit (start_of program) (phases_of program opens)
 
   -- what is loaded and asked at the end of each phase
   abbrev pub ends_from : ℕ → Loaded → List (List (List ℕ)) → Result (List Loaded) X
   ends_from limit s [] = Ok []
-  ends_from limit s (opening ∷ openings) = next (phase limit s opening) (λ t. next (ends_from limit t openings) (λ ends. Ok (t ∷ ends)))
+  ends_from limit s (opening ∷ openings) =
+      next (phase limit s opening) (λ t. next (ends_from limit t openings) (λ ends. Ok (t ∷ ends)))
 
   abbrev pub run_ends : ℕ → Object → List (List ℕ) → Result (List Loaded) X
-  run_ends limit program opens = ends_from limit (record { objs = program ∷ []; log = [] }) (program.face.needs ∷ map (λ n. n ∷ []) opens)
+  run_ends limit program opens =
+      ends_from limit (start_of program) (phases_of program opens)
 
   -- an answer names an object that is there, and brings none past the limit
   pub record IsSound (limit : ℕ) : Type 0 where
@@ -176,19 +204,22 @@ is_named None n = false
 is_named (Some s) n = bytes_eq s n
 
 abbrev pub is_known : List Asked → List ℕ → ℕ → Object → Bool
-is_known log n j o = list_any (λ a. bytes_eq a.request.name n && (a.target == j)) log || is_named o.face.soname n
+is_known log n j o =
+    list_any (λ a. bytes_eq a.request.name n && (a.target == j)) log || is_named o.face.soname n
 
 -- the first object from the i-th on that passes
 abbrev pub first_place : (ℕ → Object → Bool) → ℕ → List Object → Option ℕ
 first_place test i [] = None
 first_place test i (o ∷ os) = cond (test i o) (Some i) (first_place test (suc i) os)
 
--- what a search gives for a request: the object that the file which it finds would be, or why it finds none
+-- what a search gives for a request: the object that the file which it finds would be, or why it
+-- finds none
 abbrev pub Search : Type 0 → Type 0
 Search X = List Object → List Asked → Request → Result Object X
 
--- the target of a request: the first object for which the name is known; else the object with the identity of the file
--- that the search gives; else this file, where the list has room. The search is a parameter
+-- the target of a request: the first object for which the name is known; else the object with the
+-- identity of the file that the search gives; else this file, where the list has room. The search
+-- is a parameter
 module _ {X : Type 0} (too_many : X) (limit : ℕ) (search : Search X) where
   abbrev pub by_limit : List Object → Object → Result Found X
   by_limit objs o = cond (nat_lt (length objs) limit) (Ok (Brought o)) (Err too_many)
@@ -205,14 +236,15 @@ module _ {X : Type 0} (too_many : X) (limit : ℕ) (search : Search X) where
   by_name objs log r None = by_search objs (search objs log r)
   by_name objs log r (Some j) = Ok (Known j)
 
-  unfoldable pub target_of : List Object → List Asked → Request → Result Found X
-  target_of objs log r = by_name objs log r (first_place (is_known log r.name) 0 objs)
+  unfoldable pub found_for : List Object → List Asked → Request → Result Found X
+  found_for objs log r = by_name objs log r (first_place (is_known log r.name) 0 objs)
 
 -- each request goes to an object, not the program, of which it is the key
 pub record GoesByKey (key : Object → List ℕ) (objs : List Object) (log : List Asked) : Type 0 where
   pub by_key : (m : ℕ) (a : Asked) → slice_get log m ≡ Some a → (o : Object) × (slice_get objs a.target ≡ Some o) × (0 < a.target) × (key o ≡ a.request.name)
 
--- what a file of another world has in common with an object: the needs, no other soname than its key, and its key finds it
+-- what a file of another world has in common with an object: the needs, no other soname than its
+-- key, and its key finds it
 pub record IsAlike {X : Type 0} (search : Search X) (before : List Object) (key : List ℕ) (o there : Object) : Type 0 where
   pub needs : there.face.needs ≡ o.face.needs
   pub soname : (s : List ℕ) → there.face.soname ≡ Some s → s ≡ key

@@ -1,4 +1,5 @@
--- What an opener answers: each path by its kind in the world that is told, each object by its face in a table.
+-- What an opener answers: each path by its kind in the world that is told, each object by its face
+-- in a table.
 use Rattle.std.specs.Prelude.{ℕ, List, ◌≡◌, ◌<◌, ◌≤◌, ◌^◌, Option, Some, Result, Ok, Err, All, length, slice_get, take}
 use Rattle.answers.specs.Faults.{Rose}
 use Rattle.answers.specs.Told.{WhereTold}
@@ -12,8 +13,9 @@ use Rattle.load_model.specs.declared.opening.OpenFault.{OpenFault}
 use Rattle.load_model.specs.declared.opening.OpenFault.TheVariants.{Read, Damaged as OpensDamaged, NoMemory}
 use Rattle.load_model.specs.declared.world.WorldFile.{WorldFile}
 
--- What an opener tells: the world that it reads, where it tells it; its machine, its table of faces, its faults so far;
--- and the loan through which it reads, a number, so that a lender knows what became of what it lent.
+-- What an opener tells: the world that it reads, where it tells it; its machine, its table of
+-- faces, its faults so far; and the loan through which it reads, a number, so that a lender knows
+-- what became of what it lent.
 pub record OpenerView : Type 0 where
   pub loan : ℕ
   pub told : Option World
@@ -54,8 +56,10 @@ pub record IsDamagedAt (view : OpenerView) (world : World) (path : List ℕ) (fl
 
 -- What is answered of a path, by its kind where the opener tells its world.
 abbrev pub IsOpened : OpenerView → OpenerView → List ℕ → Result Opened OpenFault → Type 0
-IsOpened before after path (Ok OpensNothing) = WhereTold before.told (λ world. kind_in before world path ≡ Absent)
-IsOpened before after path (Ok OpensOther) = WhereTold before.told (λ world. kind_in before world path ≡ Other)
+IsOpened before after path (Ok OpensNothing) =
+    WhereTold before.told (λ world. kind_in before world path ≡ Absent)
+IsOpened before after path (Ok OpensOther) =
+    WhereTold before.told (λ world. kind_in before world path ≡ Other)
 IsOpened before after path (Ok (OpensObject id place)) =
     IsPlace after place × WhereTold before.told (λ world. IsObjectAt after world path id place)
 IsOpened before after path (Err (OpensDamaged named flaw)) =
@@ -63,7 +67,8 @@ IsOpened before after path (Err (OpensDamaged named flaw)) =
 IsOpened before after path (Err Read) = Rose before.faults after.faults
 IsOpened before after path (Err NoMemory) = Unit {0}
 
--- World, machine and loan stay, the faces stay at their places, and the count of faults does not fall.
+-- World, machine and loan stay, the faces stay at their places, and the count of faults does not
+-- fall.
 pub record OnlyGrew (before after : OpenerView) : Type 0 where
   pub loan : after.loan ≡ before.loan
   pub world : after.told ≡ before.told

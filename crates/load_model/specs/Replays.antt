@@ -52,4 +52,5 @@ module _ (read : List ℕ → Result Face Flaw) (setting : Setting) (world : Wor
     pub refused : IsRefusedAsk faces run first stop
 
   abbrev pub IsReplayStop : List ℕ → List (List ℕ) → LoadRefusal → Type 0
-  IsReplayStop path opens stop = IsStopped read setting world path opens stop ⊎ HasUnmet path opens stop
+  IsReplayStop path opens stop =
+      IsStopped read setting world path opens stop ⊎ HasUnmet path opens stop

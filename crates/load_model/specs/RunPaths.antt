@@ -19,7 +19,8 @@ pub record Spelled : Type 0 where
 
 abbrev pub is_token_letter : ℕ → Bool
 is_token_letter c =
-    (nat_le 65 c && nat_le c 90) || ((nat_le 97 c && nat_le c 122) || ((nat_le 48 c && nat_le c 57) || (c == 95)))
+    (nat_le 65 c && nat_le c 90)
+    || ((nat_le 97 c && nat_le c 122) || ((nat_le 48 c && nat_le c 57) || (c == 95)))
 
 -- The longest run of letters, digits and `_` that a text begins with.
 abbrev pub word_of : List ℕ → List ℕ
@@ -32,7 +33,8 @@ token_named word =
     (cond (bytes_eq word (codes "PLATFORM")) (Some Platform) None))
 
 abbrev pub spelled : ℕ → List ℕ → Option Spelled
-spelled more word = option_map (λ t. record { token = t; length = length word + more }) (token_named word)
+spelled more word =
+    option_map (λ t. record { token = t; length = length word + more }) (token_named word)
 
 -- A text begins with `}`.
 abbrev pub is_closed : List ℕ → Bool
@@ -50,7 +52,8 @@ token_behind (c ∷ text) = cond (c == 123) (braced text) (spelled 0 (word_of (c
 abbrev pub token_at : ℕ → List ℕ → Option Spelled
 token_at c text = cond (c == 36) (token_behind text) None
 
--- The pieces of an item: bytes, and tokens. A `$` that spells no token is a byte, and reading goes on behind it.
+-- The pieces of an item: bytes, and tokens. A `$` that spells no token is a byte, and reading goes
+-- on behind it.
 pub data Part : Type 0 where
   Byte : (c : ℕ) → Part
   Named : (token : Token) → Part
@@ -86,7 +89,8 @@ part_text setting folder (Named token) = unwrap_or (token_text setting folder to
 abbrev pub expanded : Setting → List ℕ → List ℕ → List ℕ
 expanded setting folder item = flat_map (part_text setting folder) (parts_of_item item)
 
--- An item of a run path: a folder by its expanded text, or one that is refused once the search reaches it.
+-- An item of a run path: a folder by its expanded text, or one that is refused once the search
+-- reaches it.
 pub data Item : Type 0 where
   Folder : (text : List ℕ) → Item
   Unset : (item : List ℕ) → Item
@@ -97,8 +101,8 @@ item_of setting folder item =
     cond (list_any (is_unset setting folder) (parts_of_item item)) (Unset item)
     (cond (begins_at_root (expanded setting folder item)) (Folder (expanded setting folder item)) (Relative item))
 
--- The items of a run path: the texts between colons that are not empty, as the setting and the holder's folder expand
--- them.
+-- The items of a run path: the texts between colons that are not empty, as the setting and the
+-- holder's folder expand them.
 abbrev pub texts_of : List ℕ → List (List ℕ)
 texts_of run_path = filter (λ item. not (is_empty item)) (slice_split (λ c. c == 58) run_path)
 

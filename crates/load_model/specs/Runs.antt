@@ -1,4 +1,5 @@
--- A load list as the plain type `Run` has it: its objects name their faces by their place in a table.
+-- A load list as the plain type `Run` has it: its objects name their faces by their place in a
+-- table.
 use Rattle.std.specs.Prelude.{ℕ, zero, suc, List, [], ◌∷◌, ◌≡◌, ◌<◌, ◌≤◌, ◌^◌, cond, Option, Some, None, All, length, map, nat_lt, slice_get, take}
 use Rattle.std.specs.List.{flat_map, position_from}
 use Rattle.std.specs.Option.{option_and_then, option_map, unwrap_or}
@@ -32,8 +33,8 @@ pub record IsObjOver (faces : List Face) (run : Run) (o : Obj) : Type 0 where
   pub loader : o.loader < length run.objs
   pub phase : o.phase ≤ length run.opens
 
--- A run over these faces: its first object is the program, all its numbers are in range, each object has a target for
--- each need of its face, and each opened name has a root and a local list.
+-- A run over these faces: its first object is the program, all its numbers are in range, each
+-- object has a target for each need of its face, and each opened name has a root and a local list.
 pub record IsRunOver (faces : List Face) (run : Run) : Type 0 where
   pub program : 0 < length run.objs
   pub few : length run.objs < 2 ^ 32
@@ -69,8 +70,8 @@ need_targets s k = map (target_in s.log) (needs_at (slice_get s.objs k))
 abbrev pub reached : Loaded → ℕ → List ℕ → List ℕ
 reached s root ks = with_numbers (root ∷ []) (flat_map (need_targets s) ks)
 
--- A local list: the root, and then the targets of the needs of those in the list, breadth-first; each but the root is a
--- target of one before it.
+-- A local list: the root, and then the targets of the needs of those in the list, breadth-first;
+-- each but the root is a target of one before it.
 pub record IsLocal (s : Loaded) (root : ℕ) (ks : List ℕ) : Type 0 where
   pub order : reached s root ks ≡ ks
   pub brought : (i : ℕ) → i < length ks → i < length (reached s root (take i ks))
@@ -85,9 +86,9 @@ loader_of log zero = 0
 loader_of log (suc j) = loader_in log (suc j)
 
 -- How many objects there are at the end of the first phase.
-abbrev pub first_count : List Loaded → ℕ
-first_count [] = 0
-first_count (end ∷ ends) = length end.objs
+abbrev pub start_count : List Loaded → ℕ
+start_count [] = 0
+start_count (end ∷ ends) = length end.objs
 
 -- The object of this number, as the load list has it.
 pub record IsObjOf (faces : List Face) (loaded : Loaded) (ends : List Loaded) (j : ℕ) (x : Obj) : Type 0 where
@@ -104,7 +105,7 @@ pub record IsRunOf (faces : List Face) (opens : List (List ℕ)) (loaded : Loade
   pub count : length run.objs ≡ length loaded.objs
   pub objs : (j : ℕ) (x : Obj) → slice_get run.objs j ≡ Some x → IsObjOf faces loaded ends j x
   pub targets : run.targets ≡ map (need_targets loaded) (up_to (length loaded.objs))
-  pub global : run.global ≡ first_count ends
+  pub global : run.global ≡ start_count ends
   pub opened : run.opens ≡ opens
   pub roots : run.roots ≡ map (target_in loaded.log) opens
   pub local_count : length run.locals ≡ length opens

@@ -1,4 +1,5 @@
--- Where the references of an object are looked up: its scope (System V gABI, Shared Object Dependencies and DT_SYMBOLIC).
+-- Where the references of an object are looked up: its scope (System V gABI, Shared Object
+-- Dependencies and DT_SYMBOLIC).
 use Rattle.std.specs.Prelude.{ℕ, zero, suc, List, [], ◌∷◌, ◌++◌, Bool, false, cond, Option, Some, None, slice_get}
 use Rattle.std.specs.Option.{unwrap_or}
 use Rattle.load_model.specs.LoadList.{up_to, with_numbers}
@@ -24,7 +25,9 @@ abbrev pub local_of : Run → Option Obj → List ℕ
 local_of run None = []
 local_of run (Some o) = local_by run o.phase
 
--- The object itself where it is symbolic, the global list, and the local list of the opened name that brought it, each
--- object at its first place.
+-- The object itself where it is symbolic, the global list, and the local list of the opened name
+-- that brought it, each object at its first place.
 unfoldable pub scope_of : List Face → Run → ℕ → List ℕ
-scope_of faces run j = with_numbers [] (itself faces run j ++ (up_to run.global ++ local_of run (slice_get run.objs j)))
+scope_of faces run j =
+    with_numbers []
+    (itself faces run j ++ (up_to run.global ++ local_of run (slice_get run.objs j)))

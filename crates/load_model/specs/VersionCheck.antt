@@ -28,7 +28,8 @@ needs_to faces run j = zip (needs_in (face_at faces run j)) (unwrap_or (slice_ge
 
 -- All names that were asked for up to the end of a phase, each with the object that it went to.
 abbrev pub asked_by : List Face → Run → ℕ → List (List ℕ × ℕ)
-asked_by faces run phase = flat_map (needs_to faces run) (loaded_by run phase) ++ take phase (zip run.opens run.roots)
+asked_by faces run phase =
+    flat_map (needs_to faces run) (loaded_by run phase) ++ take phase (zip run.opens run.roots)
 
 -- The name is known then for an object: it is its soname, or was asked for and went there.
 abbrev pub soname_in : Option Face → Option (List ℕ)
@@ -37,12 +38,14 @@ soname_in (Some face) = face.soname
 
 abbrev pub is_known_by : List Face → Run → ℕ → List ℕ → ℕ → Bool
 is_known_by faces run phase name j =
-    is_named (soname_in (face_at faces run j)) name || list_any (λ a. bytes_eq a.0 name && (a.1 == j)) (asked_by faces run phase)
+    is_named (soname_in (face_at faces run j)) name
+    || list_any (λ a. bytes_eq a.0 name && (a.1 == j)) (asked_by faces run phase)
 
--- The object that the file of an ask names: the first for which it is known at the end of the phase that brought the
--- object that asks.
+-- The object that the file of an ask names: the first for which it is known at the end of the phase
+-- that brought the object that asks.
 unfoldable pub version_file_of : List Face → Run → ℕ → List ℕ → Option ℕ
-version_file_of faces run j file = find (is_known_by faces run (phase_at run j) file) (loaded_by run (phase_at run j))
+version_file_of faces run j file =
+    find (is_known_by faces run (phase_at run j) file) (loaded_by run (phase_at run j))
 
 -- An object has a version where it has no definitions, or defines it.
 abbrev pub has_defined : List ℕ → List (List ℕ) → Bool
@@ -53,17 +56,20 @@ abbrev pub defs_in : Option Face → List (List ℕ)
 defs_in None = []
 defs_in (Some face) = face.defs
 
--- What keeps an ask from being met: its file is not loaded, or the file lacks the version. A weak ask is always met.
+-- What keeps an ask from being met: its file is not loaded, or the file lacks the version. A weak
+-- ask is always met.
 pub data Unmet : Type 0 where
   FileUnloaded : Unmet
   VersionLacking : Unmet
 
 abbrev pub unmet_by : List Face → Run → List ℕ → Option ℕ → Option Unmet
 unmet_by faces run version None = Some FileUnloaded
-unmet_by faces run version (Some j) = cond (has_defined version (defs_in (face_at faces run j))) None (Some VersionLacking)
+unmet_by faces run version (Some j) =
+    cond (has_defined version (defs_in (face_at faces run j))) None (Some VersionLacking)
 
 abbrev pub unmet : List Face → Run → ℕ → Ask → Option Unmet
-unmet faces run j ask = cond ask.weak None (unmet_by faces run ask.name (version_file_of faces run j ask.file))
+unmet faces run j ask =
+    cond ask.weak None (unmet_by faces run ask.name (version_file_of faces run j ask.file))
 
 -- An ask that is not met, by the numbers of the object and of the ask.
 pub record UnmetAsk : Type 0 where
@@ -75,9 +81,14 @@ abbrev pub asks_in : Option Face → List Ask
 asks_in None = []
 asks_in (Some face) = face.asks
 
+abbrev pub unmet_at : List Face → Run → ℕ → ℕ → Ask → Option UnmetAsk
+unmet_at faces run j k ask =
+    option_map (λ why. record { obj = j; ask = k; why = why }) (unmet faces run j ask)
+
 abbrev pub unmet_of : List Face → Run → ℕ → List (Option UnmetAsk)
 unmet_of faces run j =
-    map (λ numbered. option_map (λ why. record { obj = j; ask = numbered.0; why = why }) (unmet faces run j numbered.1)) (enumerate_from 0 (asks_in (face_at faces run j)))
+    map (λ numbered. unmet_at faces run j numbered.0 numbered.1)
+    (enumerate_from 0 (asks_in (face_at faces run j)))
 
 -- The first ask that is not met, by object and ask.
 unfoldable pub first_unmet : List Face → Run → Option UnmetAsk

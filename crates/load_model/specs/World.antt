@@ -1,9 +1,9 @@
 -- Worlds of files, and what kind a path has in one.
-use Rattle.std.specs.Prelude.{ℕ, List, [], ◌∷◌, Bool, cond, not, ◌≡◌, ◌==◌, ◌&&◌, nat_le, nat_eq, length, find, Option, Some, None, Result, Ok, Err, slice_get, All}
+use Rattle.std.specs.Prelude.{ℕ, List, Bool, cond, not, ◌≡◌, ◌==◌, ◌&&◌, ◌+◌, nat_le, nat_eq, length, find, Option, Some, None, Result, Ok, Err, slice_get, All}
 use Rattle.std.specs.List.{starts_with}
 use Rattle.std.specs.Str.{bytes_eq}
 use Rattle.byte_view.specs.Headers.{e_machine, ei_class, ei_data}
-use Rattle.byte_view.specs.declared.constants.TheConstants.{ELFCLASS64, ELFDATA2LSB}
+use Rattle.byte_view.specs.declared.constants.TheConstants.{ELFCLASS64, ELFDATA2LSB, ELFMAG, E_MACHINE_AT}
 use Rattle.path_text.specs.Path.{IsNormalPath}
 use Rattle.load_model.specs.declared.world.WorldFile.{WorldFile}
 
@@ -21,14 +21,18 @@ pub record IsWorld (world : World) : Type 0 where
 abbrev pub file_at : World → List ℕ → Option WorldFile
 file_at world path = find (λ f. bytes_eq f.path path) world
 
--- a file of 64-bit words and of this machine, the lowest byte of a number first (System V gABI, ELF Header)
+-- a file of 64-bit words and of this machine, the lowest byte of a number first (System V gABI,
+-- ELF Header)
 abbrev pub is_for : ℕ → List ℕ → Bool
 is_for machine bytes =
-    (ei_class bytes == ELFCLASS64) && ((ei_data bytes == ELFDATA2LSB) && (e_machine bytes == machine))
+    (ei_class bytes == ELFCLASS64)
+    && ((ei_data bytes == ELFDATA2LSB) && (e_machine bytes == machine))
 
--- an object file of another class, data order or machine, which a loader passes over; its 20 bytes reach to e_machine
+-- an object file of another class, data order or machine, which a loader passes over
 abbrev pub is_other : ℕ → List ℕ → Bool
-is_other machine bytes = nat_le 20 (length bytes) && (starts_with nat_eq bytes (127 ∷ 69 ∷ 76 ∷ 70 ∷ []) && not (is_for machine bytes))
+is_other machine bytes =
+    nat_le (E_MACHINE_AT + 2) (length bytes)
+    && (starts_with nat_eq bytes ELFMAG && not (is_for machine bytes))
 
 -- what a path is to a loader; F is what it sees of a file, X why it cannot
 pub data Kind (F X : Type 0) : Type 0 where
@@ -44,7 +48,8 @@ module _ {F X : Type 0} (read : List ℕ → Result F X) where
 
   abbrev pub kind_of_file : ℕ → Option WorldFile → Kind F X
   kind_of_file machine None = Absent
-  kind_of_file machine (Some file) = cond (is_other machine file.bytes) Other (kind_of_read file (read file.bytes))
+  kind_of_file machine (Some file) =
+      cond (is_other machine file.bytes) Other (kind_of_read file (read file.bytes))
 
   -- the kind of a path in a world, to a loader of this machine
   abbrev pub kind_of : ℕ → World → List ℕ → Kind F X

@@ -6,7 +6,7 @@ ghost use Rattle.path_text.specs.FileName.{IsFileName};
 ghost use Rattle.path_text.specs.Path.{IsNormalPath, path_of};
 ghost use Rattle.path_text.specs.declared.absolute.PathFault.TheVariants.{NotText};
 ghost use Rattle.load_model.specs.Candidates.{loader_in};
-ghost use Rattle.load_model.specs.LoadList.{AreAlike, Asked, GoesByKey, IsRun, Loaded, Object, Search, run as run_by, run_ends, target_of, up_to, with_numbers};
+ghost use Rattle.load_model.specs.LoadList.{AreAlike, Asked, GoesByKey, IsRun, Loaded, Object, Search, run as run_by, run_ends, found_for, up_to, with_numbers};
 ghost use Rattle.load_model.specs.Loads.{IsLoadList, IsStopped, goes_to, program_at};
 ghost use Rattle.load_model.specs.Runs.{IsLocal, target_in};
 ghost use Rattle.load_model.specs.World.{World};
@@ -113,6 +113,21 @@ pub fn a_name_goes_to_one_object()
         → a.target < length loaded.objs }
 {}
 
+/// Each need of each object is a request of it, and each opened name is one of the program.
+pub fn each_need_is_asked()
+    ensures needs { (read : List ℕ → Result Face Flaw) (setting : Setting) (world : World)
+        (path : List ℕ) (opens : List (List ℕ)) (loaded : Loaded) (ends : List Loaded)
+        → IsLoadList read setting world path opens loaded ends
+        → (j : ℕ) (o : Object) → slice_get loaded.objs j ≡ Some o
+        → (k : ℕ) (n : List ℕ) → slice_get o.face.needs k ≡ Some n
+        → (m : ℕ) × (a : Asked) × (slice_get loaded.log m ≡ Some a) × (a.request ≡ record { by = j; name = n }) }
+    ensures opens { (read : List ℕ → Result Face Flaw) (setting : Setting) (world : World)
+        (path : List ℕ) (opens : List (List ℕ)) (loaded : Loaded) (ends : List Loaded)
+        → IsLoadList read setting world path opens loaded ends
+        → (k : ℕ) (n : List ℕ) → slice_get opens k ≡ Some n
+        → (m : ℕ) × (a : Asked) × (slice_get loaded.log m ≡ Some a) × (a.request ≡ record { by = 0; name = n }) }
+{}
+
 /// At most one list is the local list of a root.
 pub fn at_most_one_local_list()
     ensures { (loaded : Loaded) (root : ℕ) (ks ls : List ℕ)
@@ -126,11 +141,11 @@ pub fn at_most_one_local_list()
 pub fn run_in_two_worlds<X>()
     ensures { (too_many : X) (limit : ℕ) (here there : Search X) (key : Object → List ℕ)
         (program program_there : Object) (run : Loaded) (objs_there : List Object)
-        → IsRun (target_of too_many limit here) program [] run
+        → IsRun (found_for too_many limit here) program [] run
         → GoesByKey key run.objs run.log
         → AreAlike there key run.objs objs_there
         → slice_get objs_there 0 ≡ Some program_there
-        → IsRun (target_of too_many limit there) program_there []
+        → IsRun (found_for too_many limit there) program_there []
         (record { objs = objs_there; log = run.log }) }
 {}
 

@@ -27,7 +27,7 @@ pub use faces::Face;
 pub use flaw_laws::each_flaw_is_named;
 pub use laws::{
     a_list_or_one_stop, a_name_goes_to_one_object, always_a_list_or_a_stop, at_most_one_load_list,
-    at_most_one_local_list, list_is_found_by_recursion, loaders_come_before,
+    at_most_one_local_list, each_need_is_asked, list_is_found_by_recursion, loaders_come_before,
     objects_are_the_targets, odd_name_has_no_path, recursion_gives_the_list,
     recursion_gives_the_stop, run_in_two_worlds,
 };

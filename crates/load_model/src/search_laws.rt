@@ -11,7 +11,7 @@ ghost use Rattle.load_model.specs.Deciding.{IsFirstDeciding, IsPassedOver, IsSea
 ghost use Rattle.load_model.specs.Diamond.{broken, diamond, diamond_program, diamond_run, diamond_setting, program_path, read_number};
 ghost use Rattle.load_model.specs.Expansions.{app_folder, with_lib, with_platform};
 ghost use Rattle.load_model.specs.Joined.{joined};
-ghost use Rattle.load_model.specs.LoadList.{Loaded, Object, run as run_by, target_of};
+ghost use Rattle.load_model.specs.LoadList.{Loaded, Object, run as run_by, found_for};
 ghost use Rattle.load_model.specs.Loads.{IsLoadList, goes_to, program_at};
 ghost use Rattle.load_model.specs.RunPaths.{Folder, Relative, Unset, items_of};
 ghost use Rattle.load_model.specs.SameNames.{IsByNames, IsCarried, LoadsAlike};
@@ -138,7 +138,7 @@ pub fn diamond_loads_breadth_first()
         diamond_program (codes "d" ∷ [])
         ≡ Err (MissingLibrary (codes "c") (codes "/app/lib/a")) }
     ensures limit { run_by
-        (target_of (TooManyObjects program_path) 4
+        (found_for (TooManyObjects program_path) 4
         (path_search read_number diamond_setting diamond)) 4
         diamond_program (codes "d" ∷ [])
         ≡ Err (TooManyObjects program_path) }
