@@ -1,0 +1,4 @@
+mod TokenLemmas
+mod RunPathLemmas
+mod DecisionLemmas
+mod OpeningLemmas
