@@ -120,12 +120,14 @@ pub fn each_need_is_asked()
         → IsLoadList read setting world path opens loaded ends
         → (j : ℕ) (o : Object) → slice_get loaded.objs j ≡ Some o
         → (k : ℕ) (n : List ℕ) → slice_get o.face.needs k ≡ Some n
-        → (m : ℕ) × (a : Asked) × (slice_get loaded.log m ≡ Some a) × (a.request ≡ record { by = j; name = n }) }
+        → (m : ℕ) × (a : Asked) × (slice_get loaded.log m ≡ Some a)
+        × (a.request ≡ record { by = j; name = n }) }
     ensures opens { (read : List ℕ → Result Face Flaw) (setting : Setting) (world : World)
         (path : List ℕ) (opens : List (List ℕ)) (loaded : Loaded) (ends : List Loaded)
         → IsLoadList read setting world path opens loaded ends
         → (k : ℕ) (n : List ℕ) → slice_get opens k ≡ Some n
-        → (m : ℕ) × (a : Asked) × (slice_get loaded.log m ≡ Some a) × (a.request ≡ record { by = 0; name = n }) }
+        → (m : ℕ) × (a : Asked) × (slice_get loaded.log m ≡ Some a)
+        × (a.request ≡ record { by = 0; name = n }) }
 {}
 
 /// At most one list is the local list of a root.

@@ -6,8 +6,8 @@ use crate::{Face, Flaw, Name};
 use path_text::Abs;
 use std::alloc::Global;
 
-/// What lies at a path. An object is named by its identity and by the place of its face in the table
-/// of the opener.
+/// What lies at a path. An object is named by its identity and by the place of its face in the
+/// table of the opener.
 #[derive(Drop)]
 pub enum Opened {
     Absent,

@@ -4,7 +4,8 @@ use crate::{Class, List, Name, Text};
 use path_text::Abs;
 
 /// An object of a load list. The program is its own loader; another object's loader is the object
-/// whose request first brought it. The start is phase 0, and each opened name is a phase, from 1 on.
+/// whose request first brought it. The start is phase 0, and each opened name is a phase, from 1
+/// on.
 #[derive(Drop)]
 pub struct Obj {
     /// The path under which it was found.
