@@ -11,6 +11,7 @@ use Rattle.byte_view.specs.declared.segments.Segment.{Segment}
 use Rattle.byte_view.proofs.Loads.{sound_file}
 use Rattle.byte_view.proofs.Ranges.{IsRead, range_read}
 use Rattle.dyn_table.proofs.StringTable.{range_limit}
+use Rattle.load_model.specs.TableWords.{word_in}
 use Rattle.load_model.specs.VersionTables.{file_place, memory_number}
 use Rattle.version_tables.specs.Backed.{IsBacked}
 
@@ -20,7 +21,7 @@ unfolding number_at
 taken_number file n at = little_from-take 0 n n (drop at file) (omega arith)
 
 pub backed_there : (segments : List Segment) (file : List ℕ) (at size from to : ℕ) → IsReadFrom segments file → range_in segments at size ≡ Some (from, to) → IsBacked file at size from
-unfolding file_place memory_number
+unfolding file_place memory_number word_in
 backed_there segments file at size from to r e =
     let here : range_in (headers file) at size ≡ Some (from, to) = rw (← r.same) e in
     let read : IsRead file (headers file) at size (from, to) = range_read file (headers file) at size (from, to) (sound_file file r.unflawed) here in
