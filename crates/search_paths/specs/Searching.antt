@@ -1,4 +1,5 @@
--- What a search answers: the first decision of its candidates, up to want of memory and reads that failed.
+-- What a search answers: the first decision of its candidates, up to want of memory and reads that
+-- failed.
 use Rattle.std.specs.Prelude.{ℕ, List, ◌≡◌, ◌<◌, Option, Some, None, Result, Ok, Err, All, length, slice_get}
 use Rattle.answers.specs.Faults.{Rose}
 use Rattle.answers.specs.Told.{WhereTold}
@@ -18,8 +19,8 @@ use Rattle.search_paths.specs.declared.hits.Hit.TheVariants.{Found, Missing}
 use Rattle.search_paths.specs.declared.hits.SearchStop.{SearchStop}
 use Rattle.search_paths.specs.declared.hits.SearchStop.TheVariants.{RelativeItem as StopsRelative, TokenUnset as StopsUnset, Open, NoMemory}
 
--- The asker is one of the objects and their faces are in the table. The program is its own loader, and the loader of each
--- other object has a smaller number.
+-- The asker is one of the objects and their faces are in the table. The program is its own loader,
+-- and the loader of each other object has a smaller number.
 pub record AreSearchable (faces : List Face) (objs : List Obj) (asker : ℕ) : Type 0 where
   pub within : asker < length objs
   pub faces_within : All (λ x. x.face < length faces) objs

@@ -20,15 +20,17 @@ struct Piece<'a> {
     length: usize,
 }
 
-/// An item with each token replaced by its text, or nothing where a token is not set. `folder` is that of the object
-/// that holds the run path.
+/// An item with each token replaced by its text, or nothing where a token is not set. `folder` is
+/// that of the object that holds the run path.
 pub fn expand(
     alloc: Global,
     setting: &Setting,
     folder: &Abs,
     item: &[u8],
 ) -> Result<Option<Vec<u8>>, NoMemory>
-    ensures { IfOk result (λ text. MatchOption text (list_any (is_unset setting.now folder.now) (parts_of_item item.now) ≡ true) (λ v. (list_any (is_unset setting.now folder.now) (parts_of_item item.now) ≡ false) × (v.items ≡ expanded setting.now folder.now item.now))) }
+    ensures { IfOk result (λ text. MatchOption text (list_any (is_unset setting.now folder.now)
+        (parts_of_item item.now) ≡ true) (λ v. (list_any (is_unset setting.now folder.now)
+        (parts_of_item item.now) ≡ false) × (v.items ≡ expanded setting.now folder.now item.now))) }
 {
     let mut text = Vec::new(alloc);
     let mut rest = item;
@@ -42,11 +44,16 @@ pub fn expand(
     Ok(Some(text))
 }
 
-/// The first piece of a text, a byte or the text of a token, or nothing where it is a token that is not set.
+/// The first piece of a text, a byte or the text of a token, or nothing where it is a token that is
+/// not set.
 fn first_piece<'a>(setting: &'a Setting, folder: &'a Abs, rest: &'a [u8]) -> Option<Piece<'a>>
     requires { 0 < length rest.now }
-    ensures unset { MatchOption result (list_any (is_unset setting.now folder.now) (parts_behind rest.now 0) ≡ true) (λ p. list_any (is_unset setting.now folder.now) (parts_behind rest.now 0) ≡ list_any (is_unset setting.now folder.now) (parts_behind (drop p.length rest.now) 0)) }
-    ensures text { IfSome result (λ p. flat_map (part_text setting.now folder.now) (parts_behind rest.now 0) ≡ p.text.now ++ flat_map (part_text setting.now folder.now) (parts_behind (drop p.length rest.now) 0)) }
+    ensures unset { MatchOption result (list_any (is_unset setting.now folder.now) (parts_behind
+        rest.now 0) ≡ true) (λ p. list_any (is_unset setting.now folder.now) (parts_behind rest.now
+        0) ≡ list_any (is_unset setting.now folder.now) (parts_behind (drop p.length rest.now) 0)) }
+    ensures text { IfSome result (λ p. flat_map (part_text setting.now folder.now) (parts_behind
+        rest.now 0) ≡ p.text.now ++ flat_map (part_text setting.now folder.now) (parts_behind (drop
+        p.length rest.now) 0)) }
     ensures some { IfSome result (λ p. 0 < p.length) }
     ensures within { IfSome result (λ p. p.length ≤ length rest.now) }
 {
@@ -67,7 +74,8 @@ fn first_piece<'a>(setting: &'a Setting, folder: &'a Abs, rest: &'a [u8]) -> Opt
 
 /// What a token stands for, where it is set.
 fn token_text<'a>(setting: &'a Setting, folder: &'a Abs, token: Token) -> Option<&'a [u8]>
-    ensures { option_map (λ text. text.now) result ≡ token_text setting.now folder.now (token_meant token) }
+    ensures { option_map (λ text. text.now) result ≡ token_text setting.now folder.now (token_meant
+        token) }
 {
     match token {
         Token::Origin => Some(folder.as_str().as_bytes()),

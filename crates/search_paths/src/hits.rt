@@ -4,7 +4,8 @@ use load_model::{Name, OpenFault};
 use path_text::{Abs, NoMemory};
 use std::alloc::AllocError;
 
-/// The file that a search finds, by the path that decided and the place of its face, or that no candidate is a file.
+/// The file that a search finds, by the path that decided and the place of its face, or that no
+/// candidate is a file.
 #[derive(Drop)]
 pub enum Hit {
     Found { path: Abs, id: Name, face: u32 },

@@ -25,7 +25,8 @@ pub fn look_in_item<P: Opener>(
     item: &HeldItem,
     name: &Name,
 ) -> Result<Hit, SearchStop>
-    ensures answer { IsAnswer (Decides (P.seen opener.old) (candidate_in name.now (item_held setting.now item.now))) (P.seen opener.old) (P.seen opener.new) result }
+    ensures answer { IsAnswer (Decides (P.seen opener.old) (candidate_in name.now (item_held
+        setting.now item.now))) (P.seen opener.old) (P.seen opener.new) result }
     ensures grew { OnlyGrew (P.seen opener.old) (P.seen opener.new) }
 {
     match folder_text(alloc, setting, item) {
@@ -36,7 +37,8 @@ pub fn look_in_item<P: Opener>(
 
 /// The folder that an item names, or why it is refused.
 fn folder_text(alloc: Global, setting: &Setting, item: &HeldItem) -> Result<Vec<u8>, SearchStop>
-    ensures { MatchResult result (λ v. item_held setting.now item.now ≡ Folder v.items) (λ stop. IsItemStop (item_held setting.now item.now) stop) }
+    ensures { MatchResult result (λ v. item_held setting.now item.now ≡ Folder v.items) (λ stop.
+        IsItemStop (item_held setting.now item.now) stop) }
 {
     let expanded = expand(alloc, setting, &item.folder, item.text.as_bytes())?;
     let Some(text) = expanded else {
@@ -57,7 +59,8 @@ pub fn look_in_dir<P: Opener>(
     dir: &Abs,
     name: &Name,
 ) -> Result<Hit, SearchStop>
-    ensures answer { IsAnswer (Decides (P.seen opener.old) (candidate_in name.now (Folder dir.now))) (P.seen opener.old) (P.seen opener.new) result }
+    ensures answer { IsAnswer (Decides (P.seen opener.old) (candidate_in name.now (Folder dir.now)))
+        (P.seen opener.old) (P.seen opener.new) result }
     ensures grew { OnlyGrew (P.seen opener.old) (P.seen opener.new) }
     ensures alone { IfErr result (λ stop. IsByOpening stop) }
 {
@@ -71,7 +74,8 @@ fn look_in<P: Opener>(
     folder: &[u8],
     name: &Name,
 ) -> Result<Hit, SearchStop>
-    ensures answer { IsAnswer (Decides (P.seen opener.old) (candidate_in name.now (Folder folder.now))) (P.seen opener.old) (P.seen opener.new) result }
+    ensures answer { IsAnswer (Decides (P.seen opener.old) (candidate_in name.now (Folder
+        folder.now))) (P.seen opener.old) (P.seen opener.new) result }
     ensures grew { OnlyGrew (P.seen opener.old) (P.seen opener.new) }
     ensures alone { IfErr result (λ stop. IsByOpening stop) }
 {
@@ -91,7 +95,8 @@ fn joined(alloc: Global, folder: &[u8], name: &[u8]) -> Result<Vec<u8>, AllocErr
 
 /// Looks at the path that a text spells, if it spells one.
 pub fn look_at<P: Opener>(alloc: Global, opener: &mut P, text: &[u8]) -> Result<Hit, SearchStop>
-    ensures answer { IsAnswer (Decides (P.seen opener.old) (candidate_at (path_of text.now))) (P.seen opener.old) (P.seen opener.new) result }
+    ensures answer { IsAnswer (Decides (P.seen opener.old) (candidate_at (path_of text.now)))
+        (P.seen opener.old) (P.seen opener.new) result }
     ensures grew { OnlyGrew (P.seen opener.old) (P.seen opener.new) }
     ensures alone { IfErr result (λ stop. IsByOpening stop) }
 {
@@ -103,7 +108,8 @@ pub fn look_at<P: Opener>(alloc: Global, opener: &mut P, text: &[u8]) -> Result<
 
 /// A text that spells no path is no candidate.
 fn no_path(fault: PathFault) -> Result<Hit, SearchStop>
-    ensures { MatchResult result (λ hit. (hit ≡ Hit.Missing) × (fault ≢ PathFault.NoMemory)) (λ stop. stop ≡ SearchStop.NoMemory) }
+    ensures { MatchResult result (λ hit. (hit ≡ Hit.Missing) × (fault ≢ PathFault.NoMemory)) (λ
+        stop. stop ≡ SearchStop.NoMemory) }
 {
     match fault {
         PathFault::NoMemory => Err(SearchStop::NoMemory),
@@ -119,7 +125,8 @@ pub fn begins_at_root(text: &[u8]) -> bool
 }
 
 fn open<P: Opener>(alloc: Global, opener: &mut P, path: Abs) -> Result<Hit, SearchStop>
-    ensures answer { IsAnswer (Decides (P.seen opener.old) (At path ∷ [])) (P.seen opener.old) (P.seen opener.new) result }
+    ensures answer { IsAnswer (Decides (P.seen opener.old) (At path ∷ [])) (P.seen opener.old)
+        (P.seen opener.new) result }
     ensures grew { OnlyGrew (P.seen opener.old) (P.seen opener.new) }
     ensures alone { IfErr result (λ stop. IsByOpening stop) }
 {

@@ -32,7 +32,9 @@ pub fn held_items(
     from: u32,
 ) -> Result<List<HeldItem>, NoMemory>
     requires { AreSearchable faces.now objs.now from }
-    ensures { IfOk result (λ held. (setting : Setting) (objects : _) → AreObjects faces.now objs.now objects → items_kept setting held ≡ own_items setting objects (loader_by objs.now) from (slice_get objects from)) }
+    ensures { IfOk result (λ held. (setting : Setting) (objects : _) → AreObjects faces.now objs.now
+        objects → items_kept setting held ≡ own_items setting objects (loader_by objs.now) from
+        (slice_get objects from)) }
 {
     let asker = &objs[from as usize];
     match &faces[asker.face as usize].runpath {
@@ -53,7 +55,8 @@ fn chain_items(
     from: u32,
 ) -> Result<List<HeldItem>, NoMemory>
     requires { AreSearchable faces.now objs.now from }
-    ensures { IfOk result (λ held. (setting : Setting) (objects : _) → AreObjects faces.now objs.now objects → items_kept setting held ≡ chain_items setting objects (loader_by objs.now) from) }
+    ensures { IfOk result (λ held. (setting : Setting) (objects : _) → AreObjects faces.now objs.now
+        objects → items_kept setting held ≡ chain_items setting objects (loader_by objs.now) from) }
 {
     let mut held = List::new(alloc);
     let mut number = from as usize;
@@ -74,7 +77,9 @@ fn push_rpath(
     face: &Face,
     held: &mut List<HeldItem>,
 ) -> Result<(), NoMemory>
-    ensures { OnOk result ((setting : Setting) (o : Object) → o.path ≡ object.now.path → o.face ≡ face.now → items_kept setting held.new ≡ items_kept setting held.old ++ rpath_items setting (Some o)) }
+    ensures { OnOk result ((setting : Setting) (o : Object) → o.path ≡ object.now.path → o.face ≡
+        face.now → items_kept setting held.new ≡ items_kept setting held.old ++ rpath_items setting
+        (Some o)) }
 {
     match (&face.runpath, &face.rpath) {
         (None, Some(rpath)) => push_items(alloc, &object.path, rpath, held),
@@ -89,7 +94,10 @@ fn push_items(
     run_path: &Name,
     held: &mut List<HeldItem>,
 ) -> Result<(), NoMemory>
-    ensures { OnOk result (held.new ≡ held.old ++ map (λ text. record { folder = folder_of path.now; text = text }) (texts_of run_path.now)) }
+    ensures { OnOk result (held.new ≡ held.old ++ map (λ text. record {
+      folder = folder_of path.now;
+      text = text;
+    }) (texts_of run_path.now)) }
 {
     let texts = texts_between(alloc, run_path.as_bytes())?;
     for text in texts.as_slice() {
@@ -105,7 +113,10 @@ fn push_item(
     text: &[u8],
     held: &mut List<HeldItem>,
 ) -> Result<(), NoMemory>
-    ensures { OnOk result (held.new ≡ held.old ++ map (λ text. record { folder = folder_of path.now; text = text }) (filter (λ item. not (is_empty item)) (text.now ∷ []))) }
+    ensures { OnOk result (held.new ≡ held.old ++ map (λ text. record {
+      folder = folder_of path.now;
+      text = text;
+    }) (filter (λ item. not (is_empty item)) (text.now ∷ []))) }
 {
     if is_empty(text) {
         return Ok(());
@@ -117,7 +128,8 @@ fn push_item(
 
 /// The texts between colons.
 fn texts_between(alloc: Global, run_path: &[u8]) -> Result<Vec<&[u8]>, AllocError>
-    ensures { IfOk result (λ v. map (λ item. item.now) v.items ≡ slice_split (λ c. c == 58) run_path.now) }
+    ensures { IfOk result (λ v. map (λ item. item.now) v.items ≡ slice_split (λ c. c == 58)
+        run_path.now) }
 {
     run_path.split(|c| *c == b':').collect(alloc)
 }

@@ -1,6 +1,7 @@
 //! The search of a name: the candidates in order, up to the first that decides (ld.so(8)).
 //!
-//! The search is said in `specs/Candidates.antt` of `load_model`, its answers in `specs/Searching.antt`.
+//! The search is said in `specs/Candidates.antt` of `load_model`, its answers in
+//! `specs/Searching.antt`.
 
 ghost use Rattle.std.specs.Prelude.{◌≡◌, IfErr, List};
 ghost use Rattle.std.specs.List.{flat_map};
@@ -32,7 +33,12 @@ pub fn search<P: Opener>(
 ) -> Result<Hit, SearchStop>
     requires machine { (P.seen opener.old).machine ≡ setting.now.machine }
     requires objs { AreSearchable (P.seen opener.old).faces objs.now from }
-    ensures answer { IsAnswer (λ world decided. (objects : List Object) → AreObjects (P.seen opener.old).faces objs.now objects → first_decision face_or_flaw setting.now world (candidates setting.now objects (loader_by objs.now) (record { by = from; name = name.now })) ≡ decided) (P.seen opener.old) (P.seen opener.new) result }
+    ensures answer { IsAnswer (λ world decided. (objects : List Object) → AreObjects (P.seen
+        opener.old).faces objs.now objects → first_decision face_or_flaw setting.now world
+        (candidates setting.now objects (loader_by objs.now) (record {
+          by = from;
+          name = name.now;
+        })) ≡ decided) (P.seen opener.old) (P.seen opener.new) result }
     ensures grew { OnlyGrew (P.seen opener.old) (P.seen opener.new) }
 {
     if begins_at_root(name.as_bytes()) {
@@ -53,7 +59,10 @@ pub fn search_dirs<P: Opener>(
     dirs: &[Abs],
     name: &Name,
 ) -> Result<Hit, SearchStop>
-    ensures answer { IsAnswer (λ world decided. (setting : Setting) → setting.machine ≡ (P.seen opener.old).machine → setting.dirs ≡ dirs.now → first_decision face_or_flaw setting world (listed_candidates setting name.now) ≡ decided) (P.seen opener.old) (P.seen opener.new) result }
+    ensures answer { IsAnswer (λ world decided. (setting : Setting) → setting.machine ≡ (P.seen
+        opener.old).machine → setting.dirs ≡ dirs.now → first_decision face_or_flaw setting world
+        (listed_candidates setting name.now) ≡ decided) (P.seen opener.old) (P.seen opener.new)
+        result }
     ensures grew { OnlyGrew (P.seen opener.old) (P.seen opener.new) }
     ensures alone { IfErr result (λ stop. IsByOpening stop) }
 {
@@ -68,7 +77,8 @@ fn look_in_items<P: Opener>(
     items: &[HeldItem],
     name: &Name,
 ) -> Result<Hit, SearchStop>
-    ensures answer { IsAnswer (Decides (P.seen opener.old) (flat_map (λ item. candidate_in name.now (item_held setting.now item)) items.now)) (P.seen opener.old) (P.seen opener.new) result }
+    ensures answer { IsAnswer (Decides (P.seen opener.old) (flat_map (λ item. candidate_in name.now
+        (item_held setting.now item)) items.now)) (P.seen opener.old) (P.seen opener.new) result }
     ensures grew { OnlyGrew (P.seen opener.old) (P.seen opener.new) }
 {
     for item in items {
@@ -88,7 +98,8 @@ fn look_in_folders<P: Opener>(
     dirs: &[Abs],
     name: &Name,
 ) -> Result<Hit, SearchStop>
-    ensures answer { IsAnswer (Decides (P.seen opener.old) (flat_map (λ dir. candidate_in name.now (Folder dir)) dirs.now)) (P.seen opener.old) (P.seen opener.new) result }
+    ensures answer { IsAnswer (Decides (P.seen opener.old) (flat_map (λ dir. candidate_in name.now
+        (Folder dir)) dirs.now)) (P.seen opener.old) (P.seen opener.new) result }
     ensures grew { OnlyGrew (P.seen opener.old) (P.seen opener.new) }
     ensures alone { IfErr result (λ stop. IsByOpening stop) }
 {
@@ -100,4 +111,67 @@ fn look_in_folders<P: Opener>(
         }
     }
     Ok(Hit::Missing)
+}
+
+#[cfg(test)]
+mod tests {
+    use super::search_dirs;
+    use crate::hits::{Hit, SearchStop};
+    use load_model::{Face, Flaw, Name, OpenFault, Opened, Opener};
+    use path_text::Abs;
+    use std::alloc::Global;
+    use std::test::Fail;
+
+    /// Nothing but a damaged file in each folder.
+    #[derive(Drop)]
+    struct Broken;
+
+    impl Opener for Broken {
+        ghost use Rattle.std.specs.Prelude.{[], None};
+        ghost use Rattle.load_model.specs.Opening.{OpenerView};
+
+        ghost seen = { λ _. record { told = None; machine = 62; faces = []; faults = 0; loan = 0 } };
+
+        fn open(&mut self, alloc: Global, path: &Abs) -> Result<Opened, OpenFault> {
+            if path.base() != b"libc.so.6".as_slice() {
+                return Ok(Opened::Absent);
+            }
+            match path.copy(alloc) {
+                Ok(path) => Err(OpenFault::Damaged {
+                    path,
+                    flaw: Flaw {
+                        code: 1,
+                        a: 0,
+                        b: 0,
+                    },
+                }),
+                Err(_) => Err(OpenFault::NoMemory),
+            }
+        }
+
+        fn faces(&self) -> &[Face] {
+            &[]
+        }
+    }
+
+    #[test]
+    fn damaged_file_decides(rt: HostRuntime) -> Result<(), Fail> {
+        let alloc = rt.alloc();
+        let Ok(dir) = Abs::read(alloc, b"/lib") else {
+            return Err(Fail::from("no folder"));
+        };
+        let dirs = [dir];
+        let mut opener = Broken;
+        let other = Name::from_bytes(alloc, b"libm.so.6")?;
+        let missing = search_dirs(alloc, &mut opener, dirs.as_slice(), &other);
+        assert!(rt; matches!(missing, Ok(Hit::Missing)));
+        let broken = Name::from_bytes(alloc, b"libc.so.6")?;
+        let stop = search_dirs(alloc, &mut opener, dirs.as_slice(), &broken);
+        assert!(rt; is_damaged(&stop));
+        Ok(())
+    }
+
+    fn is_damaged(answer: &Result<Hit, SearchStop>) -> bool {
+        matches!(answer, Err(SearchStop::Open(OpenFault::Damaged { .. })))
+    }
 }

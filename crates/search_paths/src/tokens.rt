@@ -34,7 +34,8 @@ pub fn token_at(text: &[u8]) -> Option<Spelled>
     token_behind(&text[1..])
 }
 
-/// The token that stands behind a `$`, if these bytes spell one. Its length is that from behind the `$`.
+/// The token that stands behind a `$`, if these bytes spell one. Its length is that from behind the
+/// `$`.
 fn token_behind(text: &[u8]) -> Option<Spelled>
     ensures token { option_map spelled_as result ≡ token_behind text.now }
     ensures within { IfSome result (λ s. s.length ≤ length text.now) }
