@@ -3,8 +3,7 @@
 use super::{Export, Import, Shape, make_object};
 use byte_view::constants::{STT_FUNC, STT_OBJECT};
 use byte_view::{u16_at, u32_at, u64_at};
-use load_model::{Ask, List, Name, NoMemory};
-use sample_file::smallest_program;
+use load_model::{Ask, List, Name, NoMemory, Text};
 use std::alloc::Global;
 use std::test::Fail;
 
@@ -205,157 +204,114 @@ fn shape_of_fullest(alloc: Global) -> Result<Shape, NoMemory> {
     })
 }
 
-/// A program that imports a function of a version.
-fn importing(alloc: Global) -> Result<Shape, NoMemory> {
+#[test]
+fn smallest_program(rt: HostRuntime) -> Result<(), Fail> {
+    let made = make_object(rt.alloc(), &program(rt.alloc(), &["libc.so.6"])?)?;
+    assert!(rt; made.as_bytes() == sample_file::smallest_program().as_slice());
+    Ok(())
+}
+
+#[test]
+fn library_with_all_parts(rt: HostRuntime) -> Result<(), Fail> {
+    let made = make_object(rt.alloc(), &shape_of_fullest(rt.alloc())?)?;
+    assert!(rt; made.as_bytes() == fullest().as_slice());
+    Ok(())
+}
+
+/// Has the file this length, and these words of eight bytes at these places?
+fn has_words(file: &Text, len: usize, words: &[(u64, u64)]) -> bool {
+    let bytes = file.as_bytes();
+    bytes.len() == len
+        && words
+            .iter()
+            .all(|(at, word)| u64_at(bytes, *at) == Some(*word))
+}
+
+#[test]
+fn program_with_an_import(rt: HostRuntime) -> Result<(), Fail> {
+    let alloc = rt.alloc();
     let mut imports = List::new(alloc);
     imports.push(import(alloc, "puts", "libc.so.6", "GLIBC_2.2.5")?)?;
-    Ok(Shape {
+    let shape = Shape {
         imports,
         spare: 4,
         ..program(
             alloc,
             &["libstdc++.so.6", "libm.so.6", "libgcc_s.so.1", "libc.so.6"],
         )?
-    })
-}
-
-/// A library that asks a version of another file.
-fn asking(alloc: Global) -> Result<Shape, NoMemory> {
-    let mut asks = List::new(alloc);
-    asks.push(ask(alloc, "libc.so.6", "GLIBC_9", false)?)?;
-    Ok(Shape {
-        asks,
-        ..library(alloc, "libq.so.1", &["libc.so.6"])?
-    })
-}
-
-#[test]
-fn whole_files(rt: HostRuntime) -> Result<(), Fail> {
-    let alloc = rt.alloc();
-    let (smallest, fullest) = (smallest_program(), fullest());
-    let rows = [
-        (
-            "the smallest program",
-            program(alloc, &["libc.so.6"])?,
-            smallest.as_slice(),
-        ),
-        (
-            "a library with all parts",
-            shape_of_fullest(alloc)?,
-            fullest.as_slice(),
-        ),
+    };
+    let made = make_object(alloc, &shape)?;
+    // The size of the header table, of the interpreter, of the loaded part, the place and size of the dynamic table;
+    // then the size of the strings, the 12th entry, and the end.
+    let words = [
+        (96, 224),
+        (152, 28),
+        (208, 776),
+        (240, 504),
+        (264, 272),
+        (504, 1),
+        (616, 10),
+        (624, 67),
+        (680, 0x6fff_ffff),
+        (688, 1),
+        (696, 0),
+        (768, 0),
     ];
-    for (what, shape, bytes) in rows {
-        let made = make_object(alloc, &shape)?;
-        assert!(rt; made.as_bytes() == bytes, "{what}");
-    }
+    assert!(rt; has_words(&made, 776, &words));
     Ok(())
 }
 
-/// Where the dynamic table's program header of a program has the table's place and its size.
-const TABLE_PLACE: u64 = 240;
-
-const TABLE_SIZE: u64 = 264;
-/// The sizes of the loaded segment of a program in the file and in memory.
-const LOADED: u64 = 208;
-
-const LOADED_MEMORY: u64 = 216;
-
 #[test]
-fn lengths_and_words_of_eight_bytes(rt: HostRuntime) -> Result<(), Fail> {
+fn spare_entries_and_zero_bytes(rt: HostRuntime) -> Result<(), Fail> {
     let alloc = rt.alloc();
     let needs = ["libq.so.1", "libc.so.6"];
+    let made = make_object(alloc, &program(alloc, &needs)?)?;
+    assert!(rt; has_words(&made, 512, &[(240, 384), (264, 128), (504, 0)]));
     let spare = Shape {
         spare: 1,
         ..program(alloc, &needs)?
     };
+    let made = make_object(alloc, &spare)?;
+    assert!(rt; has_words(&made, 528, &[(240, 384), (264, 144), (520, 0)]));
     let zero = Shape {
         runpath: Some(name(alloc, "/opt/app/lib")?),
         zero: 10_000,
         ..program(alloc, &needs)?
     };
-    let rows = [
-        (
-            "an import: the size of the headers, of the interpreter and of the strings, and the ends of the entries",
-            importing(alloc)?,
-            776,
-            [
-                (96, 224),
-                (152, 28),
-                (LOADED, 776),
-                (TABLE_PLACE, 504),
-                (TABLE_SIZE, 272),
-                (616, 10),
-                (624, 67),
-                (680, 0x6fff_ffff),
-                (688, 1),
-                (696, 0),
-                (768, 0),
-            ]
-            .as_slice(),
-        ),
-        (
-            "two needs",
-            program(alloc, &needs)?,
-            512,
-            &[(TABLE_PLACE, 384), (TABLE_SIZE, 128), (504, 0)],
-        ),
-        (
-            "a spare entry",
-            spare,
-            528,
-            &[(TABLE_PLACE, 384), (TABLE_SIZE, 144), (520, 0)],
-        ),
-        (
-            "zero bytes behind the file",
-            zero,
+    let made = make_object(alloc, &zero)?;
+    assert!(rt;
+        has_words(
+            &made,
             544,
-            &[
-                (LOADED, 544),
-                (LOADED_MEMORY, 10_544),
-                (248, 400),
-                (504, 34),
-            ],
-        ),
-        (
-            "an ask: the places of the dynamic table, of the strings, of the version indexes and of the needs",
-            asking(alloc)?,
-            464,
-            &[(128, 288), (344, 176), (408, 248), (424, 256), (440, 1)],
-        ),
-    ];
-    for (what, shape, length, words) in rows {
-        let made = make_object(alloc, &shape)?;
-        let bytes = made.as_bytes();
-        assert_eq!(rt; bytes.len(), length, "{what}");
-        let all = words
-            .iter()
-            .all(|(at, word)| u64_at(bytes, *at) == Some(*word));
-        assert!(rt; all, "{what}");
-    }
+            &[(208, 544), (216, 10_544), (248, 400), (504, 34)]
+        )
+    );
     Ok(())
 }
 
 #[test]
-fn records_of_an_ask(rt: HostRuntime) -> Result<(), Fail> {
-    let made = make_object(rt.alloc(), &asking(rt.alloc())?)?;
+fn library_that_asks_a_version(rt: HostRuntime) -> Result<(), Fail> {
+    let alloc = rt.alloc();
+    let mut asks = List::new(alloc);
+    asks.push(ask(alloc, "libc.so.6", "GLIBC_9", false)?)?;
+    let shape = Shape {
+        asks,
+        ..library(alloc, "libq.so.1", &["libc.so.6"])?
+    };
+    let made = make_object(alloc, &shape)?;
     let bytes = made.as_bytes();
-    let rows = [
-        (
-            "the version of the need",
-            u16_at(bytes, 256).map(u32::from),
-            1,
-        ),
-        ("how many asks it has", u16_at(bytes, 258).map(u32::from), 1),
-        ("its file", u32_at(bytes, 260), 11),
-        ("how far its ask is", u32_at(bytes, 264), 16),
-        ("the hash of the ask", u32_at(bytes, 272), 0),
-        ("its flags", u16_at(bytes, 276).map(u32::from), 0),
-        ("its index", u16_at(bytes, 278).map(u32::from), 2),
-        ("its name", u32_at(bytes, 280), 21),
-    ];
-    for (what, word, wanted) in rows {
-        assert_eq!(rt; word, Some(wanted), "{what}");
-    }
+    // Where the dynamic table and the strings are; how many records of needed versions there are.
+    assert!(rt;
+        has_words(
+            &made,
+            464,
+            &[(128, 288), (344, 176), (408, 248), (424, 256), (440, 1)]
+        )
+    );
+    // The record: version, count, file, and how far its ask is; the ask: flags, index, name.
+    assert!(rt; u16_at(bytes, 256) == Some(1) && u16_at(bytes, 258) == Some(1));
+    assert!(rt; u32_at(bytes, 260) == Some(11) && u32_at(bytes, 264) == Some(16));
+    assert!(rt; u32_at(bytes, 272) == Some(0) && u16_at(bytes, 276) == Some(0));
+    assert!(rt; u16_at(bytes, 278) == Some(2) && u32_at(bytes, 280) == Some(21));
     Ok(())
 }
