@@ -1,44 +1,64 @@
--- How a call ends, from what its last step says.
-use Rattle.std.proofs.Common.{ℕ, ◌≡◌, ◌⊎◌, inl, inr, refl, ap, sym, ◌∙◌, subst, Option, Some, None, List, [], ◌∷◌, ◌≢◌, take, append-nil}
-use Rattle.ports.specs.Folder.{root_state}
-use Rattle.ports.specs.declared.folders.MemFile.{MemFile}
-use Rattle.ports.specs.declared.folders.RootState.TheVariants.{Empty, NotEmpty}
-use Rattle.appdir_cli.specs.Endings.{Ends, Gained, IsDecided, IsRefusal, IsRefused, IsSaid, IsUsage, IsWritten, Outside, Took}
+-- How a call for a command ends, from how its files were delivered, or from its refusal.
+use Rattle.std.proofs.Common.{◌≡◌, inl, inr, refl, sym, subst, Result, Ok, Err}
+use Rattle.appdir_cli.specs.Delivery.{IsDelivered, IsFull, IsWhole}
+use Rattle.appdir_cli.specs.Endings.{EndsFor, IsDone, IsOutcome, IsRefused, Outside}
+use Rattle.ports.specs.View.{Stays, View}
 use Rattle.appdir_cli.specs.Lines.{refusal_line}
-use Rattle.appdir_cli.specs.declared.refusal.Refusal.{Refusal}
-use Rattle.appdir_cli.specs.declared.status.Status.{Status}
-use Rattle.appdir_cli.specs.declared.status.Status.TheVariants.{Refused}
+use Rattle.appdir_cli.specs.Saying.{IsRefusal}
+use Rattle.appdir_cli.specs.Packing.{Packs as IsPackedBy}
+use Rattle.appdir_cli.specs.ComesTo.{ComesTo}
+use Rattle.appdir_cli.specs.Steps.{IsStepAnswer}
+use Rattle.load_model.specs.World.{World}
+use Rattle.appdir_cli.specs.declared.answer.Answer.{Answer}
+use Rattle.appdir_cli.specs.declared.answer.Stop.{Stop}
+use Rattle.appdir_cli.specs.declared.words.Command.TheVariants.{Quick as AsksQuick}
 use Rattle.appdir_cli.specs.declared.words.Quick.{Quick}
+use Rattle.appdir_cli.specs.declared.answer.Answer.TheVariants.{Packs}
+use Rattle.appdir_cli.specs.declared.answer.Whole.{Whole}
+use Rattle.appdir_cli.specs.declared.words.Command.{Command}
+use Rattle.appdir_cli.specs.declared.refusal.Refusal.{Refusal}
+use Rattle.appdir_cli.specs.declared.refusal.Refusal.TheVariants.{NotEmpty}
+use Rattle.appdir_cli.specs.declared.status.Status.{Status}
+use Rattle.appdir_cli.specs.declared.status.Status.TheVariants.{Done, Refused, Usage, ReadFailed, WriteFailed, NoMemory, PrintFailed}
 
--- a call ends with its status where its line was taken whole, and else with the sink's fault
-pub said_ends : (asked : Option Quick) (before after : Outside) (text : List ℕ) (status r : Status) → IsSaid text status before.taken after.taken before.sink_faults after.sink_faults r → (Took text before.taken after.taken → Ends asked before after status) → IsUsage asked before after text ⊎ (IsRefused asked before after text ⊎ IsWritten asked before after text) → Ends asked before after r
-said_ends asked before after text status r said whole ending =
-    elim said.whole [
-      | inl p ↦ subst (λ (x : Status). Ends asked before after x) (sym p.0) (whole p.1)
-      | inr q ↦ subst (λ (x : Status). Ends asked before after x) (sym q.0) (record { cause = q.1; text = text; part = q.2; ending = ending })
-    ]
+module _ (command : Command) (before after : Outside) (whole : Whole) (outcome : IsOutcome command before (Ok (Packs whole))) where
+  done : IsWhole whole before.folder after.folder → IsDone command before after whole.line
+  done given = record { answer = Packs whole; outcome = outcome; line = refl; given = given }
 
--- a refusal that was decided before the folder was looked at
-pub refused_ends : (command : Quick) (before after : Outside) (refusal : Refusal) (r : Status) → IsDecided command before after refusal → IsRefusal refusal before.taken after.taken before.sink_faults after.sink_faults r → Ends (Some command) before after r
-refused_ends command before after refusal r decided said =
-    let refused : IsRefused (Some command) before after (refusal_line refusal) =
-    record { command = command; quick = refl; refusal = refusal; line = refl; reason = inl decided } in
-    elim said [
-      | inl p ↦ subst (λ (x : Status). Ends (Some command) before after x) (sym p.0) (record { untouched = decided.untouched; silent = p.1 })
-      | inr q ↦ said_ends (Some command) before after (refusal_line refusal) Refused r q (λ took. (refusal_line refusal, refused, took)) (inr (inl refused))
-    ]
+  over : IsFull whole before.folder after.folder → IsRefused command before after (refusal_line (NotEmpty whole.place))
+  over full = record { refusal = NotEmpty whole.place; line = refl; reason = inr (record { whole = whole; outcome = outcome; not_empty = refl; full = full }) }
 
--- a folder that is not empty holds a finished file
-pub held_files : (files : List MemFile) → NotEmpty ≡ root_state files → files ≢ []
-held_files [] e = absurd (cc)
-held_files (file ∷ files) e = λ f. cc
+  pub delivered_ends : (status : Status) → IsDelivered whole before.folder after.folder before.sink after.sink status → EndsFor command before after status
+  delivered_ends Done h = (whole.line, done h.0, h.1)
+  delivered_ends Refused h = (refusal_line (NotEmpty whole.place), over h.0, h.1)
+  delivered_ends WriteFailed h = record { whole = whole; outcome = outcome; cut_off = h.0; silent = h.1 }
+  delivered_ends NoMemory h = record { folder = h.0; sink = h.1 }
+  delivered_ends PrintFailed h =
+      elim h [
+        | inl p ↦ inl (whole.line, done p.0, p.1)
+        | inr q ↦ inr (refusal_line (NotEmpty whole.place), over q.0, q.1)
+      ]
+  delivered_ends Usage h = h
+  delivered_ends ReadFailed h = absurd h
 
--- an empty folder holds none
-pub no_files : (files : List MemFile) → Empty ≡ root_state files → files ≡ []
-no_files [] e = refl
-no_files (file ∷ files) e = absurd (cc)
+module _ (command : Command) (before after : Outside) (refusal : Refusal) (outcome : IsOutcome command before (Err refusal)) (untouched : Stays before.folder after.folder) where
+  decided : IsRefused command before after (refusal_line refusal)
+  decided = record { refusal = refusal; line = refl; reason = inl (record { outcome = outcome; untouched = untouched }) }
 
--- nothing was gained where the finished files stayed
-pub gained_none : (items : List MemFile) (finished finished' : Option (List MemFile)) → finished' ≡ finished → Gained (take 0 items) finished finished'
-gained_none items None finished' e = e
-gained_none items (Some files) finished' e = e ∙ ap (λ l. Some l) (sym (append-nil files))
+  pub refused_ends : (status : Status) → IsRefusal refusal before.sink after.sink status → EndsFor command before after status
+  refused_ends status h =
+      let P : Status → Type 0 = λ s. EndsFor command before after s in
+      elim h [
+        | inl none ↦ subst P (sym none.0) (record { folder = untouched; sink = none.1 })
+        | inr said ↦ elim said [
+          | inl took ↦ subst P (sym took.0) (refusal_line refusal, decided, took.1)
+          | inr part ↦ subst P (sym part.0) (inr (refusal_line refusal, decided, part.1))
+        ]
+      ]
+
+abbrev pub quick_of : Command → Quick
+quick_of (AsksQuick quick) = quick
+
+-- the one command
+pub commanded : (before after : View World) (command : Command) (result : Result Answer Stop) → IsStepAnswer before after (λ world outcome. IsPackedBy world (quick_of command) outcome) result → IsStepAnswer before after (λ world outcome. ComesTo world command outcome) result
+commanded before after (AsksQuick quick) result h = h

@@ -1,189 +1,243 @@
--- A host that has the copy and the files of the names loads the same list.
-use Rattle.std.proofs.Common.{ℕ, zero, suc, List, [], ◌∷◌, ◌++◌, Bool, true, false, cond, Option, Some, None, Result, Ok, Err, ◌≡◌, ◌<◌, inl, inr, option_map, refl, sym, ◌∙◌, ap, subst, map, slice_get, arith, lit<, length, ◌-◌}
+-- A program that can be packed loads the same on every host that carries its copy, and what a call has written is such.
+use Rattle.std.proofs.Common.{ℕ, zero, suc, List, [], ◌∷◌, ◌++◌, Bool, true, false, not, cond, Option, Some, None, Result, Ok, is_none, ◌≡◌, ◌<◌, ◌==◌, ◌&&◌, ◌||◌, inl, inr, option_map, refl, sym, ◌∙◌, ap, subst, map, slice_get, arith}
 use Rattle.std.specs.Prelude.{All, codes}
+use Rattle.std.specs.List.{list_all, list_any}
+use Rattle.std.specs.Str.{bytes_eq}
+use Rattle.std.proofs.lemmas.Bool.{and_parts}
+use Rattle.std.proofs.lemmas.List.{append-nil}
+use Rattle.std.proofs.lemmas.List.Elements.{All-nil, All-cons, All-head, All-tail}
+use Rattle.answers.specs.Told.{WhereTold}
+use Rattle.byte_view.specs.declared.flaws.Flaw.{Flaw}
+use Rattle.path_text.specs.FileName.{IsFileName, is_file_name_text}
 use Rattle.path_text.proofs.NameLemmas.{IsFileName-from_test}
-use Rattle.load_model.specs.World.{World, Other, file_at, is_other, kind_of_file, kind_of_read}
-use Rattle.load_model.specs.LoadList.{next, Object as Loadable, Asked, Loaded, IsRun, target_of}
-use Rattle.load_model.specs.ListedSearch.{HasNoSlash, IsAskedFor, IsCarried, copied, first_right, joined, listed_paths, listed_search, object_there, objects_there, with_file}
+use Rattle.load_model.specs.Faces.{face_or_flaw}
+use Rattle.load_model.specs.LoadList.{Object, Request, Asked, Loaded, needs_from, requests_of}
+use Rattle.load_model.specs.Loads.{IsLoadList}
+use Rattle.load_model.specs.Runs.{target_in}
+use Rattle.load_model.specs.SameNames.{HasNoRunPath, IsByNames, key_of}
+use Rattle.load_model.specs.World.{World}
+use Rattle.load_model.specs.declared.faces.Face.{Face}
+use Rattle.load_model.specs.declared.setting.Setting.{Setting}
 use Rattle.load_model.specs.declared.world.WorldFile.{WorldFile}
-use Rattle.load_model.proofs.Answered.{is_run, run_found}
-use Rattle.load_model.proofs.Carried.{copied_there, find_at}
-use Rattle.load_model.proofs.Joined.{no_slash}
-use Rattle.load_model.proofs.Listed.{run_goes, start as first_object}
-use Rattle.load_model.proofs.Opened.{opens_asked}
-use Rattle.ports.specs.declared.folders.MemFile.{MemFile}
-use Rattle.appdir_cli.specs.Endings.{Ends, Outside}
-use Rattle.appdir_cli.specs.Opening.{EM_X86_64, not_read}
-use Rattle.appdir_cli.specs.Outcome.{MOST_OBJECTS, app_run, default_dirs, hosts_of, is_startable, linked, outcome_of, package_of, program_of, run_by, start_as, start_of, stops}
-use Rattle.appdir_cli.specs.ThinFaces.{thin_face_of}
-use Rattle.appdir_cli.specs.TwoWorlds.{GoesToFirstRight, IsCopyOrAskedFor, IsHost, IsPortable, RunsAlike, RunsAlikeBy, RunsThere, command_there, copy_path, loaded_there, start_there}
-use Rattle.appdir_cli.specs.Words.{command_of}
-use Rattle.appdir_cli.specs.declared.package.Package.{Package}
-use Rattle.appdir_cli.specs.declared.refusal.Refusal.{Refusal}
-use Rattle.appdir_cli.specs.declared.refusal.Refusal.TheVariants.{NotBuilt}
-use Rattle.appdir_cli.specs.declared.starting.Start.{Start}
+use Rattle.load_model.proofs.AskedNeeds.{map_get}
+use Rattle.load_model.proofs.Counts.{slice_get-append}
+use Rattle.load_model.proofs.LoadLists.{forget, name_has_target}
+use Rattle.load_model.proofs.Places.{slice_get-take}
+use Rattle.load_model.proofs.SameNamesLemmas.{loads_alike}
+use Rattle.load_model.proofs.TwoWorlds.{same_bytes}
+use Rattle.ports.specs.Folder.{Folder}
+use Rattle.ports.specs.View.{View}
+use Rattle.appdir_cli.specs.Delivery.{IsWhole, filled}
+use Rattle.appdir_cli.specs.Endings.{Ends, IsGiven, Outside}
+use Rattle.appdir_cli.specs.Fitting.{face_of_object, fits_as_object, fits_as_program, fits_need, has_key, has_listed_interpreter, is_all_listed, is_on_list}
+use Rattle.appdir_cli.specs.Packing.{IsPackage, Packs as IsPackedBy, default_setting}
+use Rattle.appdir_cli.specs.TwoWorlds.{IsPackable, IsPortable, RunsAlike, RunsOnHosts}
+use Rattle.appdir_cli.specs.Words.{command_of, default_names_list, is_unshaped, names_of, path_in, quick_of, quick_with, shape_of}
+use Rattle.appdir_cli.specs.declared.answer.Answer.{Answer}
+use Rattle.appdir_cli.specs.declared.answer.Answer.TheVariants.{Says, Packs}
+use Rattle.appdir_cli.specs.declared.answer.Whole.{Whole}
 use Rattle.appdir_cli.specs.declared.status.Status.{Status}
 use Rattle.appdir_cli.specs.declared.status.Status.TheVariants.{Done}
-use Rattle.appdir_cli.specs.declared.thin_faces.ThinFace.{ThinFace}
+use Rattle.appdir_cli.specs.declared.words.Command.{Command}
+use Rattle.appdir_cli.specs.declared.words.Command.TheVariants.{Quick as AsksQuick}
 use Rattle.appdir_cli.specs.declared.words.Quick.{Quick}
-use Rattle.appdir_cli.proofs.WordsLemmas.{plain_names}
 
-get_map : {A B : Type 0} (f : A → B) (xs : List A) (j : ℕ) (x : A) → slice_get xs j ≡ Some x → slice_get (map f xs) j ≡ Some (f x)
-get_map f [] j x h = cc
-get_map f (z ∷ zs) zero x h = let e : z ≡ x = cc in ap (λ y. Some (f y)) e
-get_map f (z ∷ zs) (suc j) x h = get_map f zs j x h
+-- ---- what the tests say
 
-get_there : (machine : ℕ) (host : World) (dirs : List (List ℕ)) (copy : WorldFile) (objs : List Loadable) (j : ℕ) (o : Loadable) → 0 < j → slice_get objs j ≡ Some o → slice_get (objects_there machine host dirs copy objs) j ≡ Some (object_there machine host dirs o)
-get_there machine host dirs copy [] j o some h = cc
-get_there machine host dirs copy (p ∷ os) zero o some h = absurd (omega arith)
-get_there machine host dirs copy (p ∷ os) (suc j) o some h = get_map (object_there machine host dirs) os j o h
+none_is : {A : Type 0} (o : Option A) → is_none o ≡ true → o ≡ None
+none_is None h = refl
+none_is (Some x) h = cc
 
-first_there : (machine : ℕ) (host : World) (dirs : List (List ℕ)) (copy : WorldFile) (objs : List Loadable) (p q : Loadable) → slice_get objs 0 ≡ Some p → slice_get (objects_there machine host dirs copy objs) 0 ≡ Some q → q.path ≡ copy.path
-first_there machine host dirs copy [] p q h g = cc
-first_there machine host dirs copy (o ∷ os) p q h g =
-    let e : copied copy o ≡ q = cc in
-    ap (λ (x : Loadable). x.path) (sym e)
+all_pass : {A : Type 0} (test : A → Bool) (xs : List A) (j : ℕ) (x : A) → list_all test xs ≡ true → slice_get xs j ≡ Some x → test x ≡ true
+all_pass test [] j x h g = cc
+all_pass test (y ∷ xs) zero x h g =
+    let same : y ≡ x = cc in
+    ap test (sym same) ∙ (and_parts (test y) (list_all test xs) h).0
+all_pass test (y ∷ xs) (suc j) x h g = all_pass test xs j x (and_parts (test y) (list_all test xs) h).1 g
 
-module _ {X : Type 0} (read : List ℕ → Result ThinFace X) (unread : List ℕ → X → Refusal) where
-  -- a program that is started lies at its path, is for this machine, can be read and can be packed
-  record IsStarted (command : Quick) (file : WorldFile) (face : ThinFace) : Type 0 where
-    right : is_other EM_X86_64 file.bytes ≡ false
-    readable : read file.bytes ≡ Ok face
-    listed : is_startable command.names face ≡ true
+is_name_by : (b : Bool) (n name : List ℕ) (rest : Bool) → bytes_eq n name ≡ b → IsFileName n → (rest ≡ true → IsFileName name) → (b || rest) ≡ true → IsFileName name
+is_name_by true n name rest e plain more h = subst IsFileName (same_bytes n name e) plain
+is_name_by false n name rest e plain more h = more h
 
-  startable_is : (command : Quick) (file : WorldFile) (face : ThinFace) (b : Bool) (start : Start) → is_startable command.names face ≡ b → is_other EM_X86_64 file.bytes ≡ false → read file.bytes ≡ Ok face → ◌≡◌ {A = Result Start Refusal} (cond b (Ok (record { file = file; face = face })) (Err NotBuilt)) (Ok start) → IsStarted command start.file start.face
-  startable_is command file face true start e right readable h =
-      let is : record { file = file; face = face } ≡ start = cc in
-      subst (λ (s : Start). IsStarted command s.file s.face) is (record { right = right; readable = readable; listed = e })
-  startable_is command file face false start e right readable h = absurd (cc)
+-- what is on a list of file names is one
+is_name : (names : List (List ℕ)) (name : List ℕ) → All IsFileName names → is_on_list names name ≡ true → IsFileName name
+is_name [] name all h = cc
+is_name (n ∷ names) name all h =
+    is_name_by (bytes_eq n name) n name (is_on_list names name) refl (All-head IsFileName n names all) (λ g. is_name names name (All-tail IsFileName n names all) g) h
 
-  read_is : (command : Quick) (file : WorldFile) (r : Result ThinFace X) (start : Start) → is_other EM_X86_64 file.bytes ≡ false → read file.bytes ≡ r → start_as read unread command (kind_of_read read file r) ≡ Ok start → IsStarted command start.file start.face
-  read_is command file (Ok face) start right e h = startable_is command file face (is_startable command.names face) start refl right e h
-  read_is command file (Err flaw) start right e h = absurd (cc)
+above_zero : (t : ℕ) → not (t == 0) ≡ true → 0 < t
+above_zero zero h = cc
+above_zero (suc t) h = omega arith
 
-  other_is : (command : Quick) (file : WorldFile) (b : Bool) (start : Start) → is_other EM_X86_64 file.bytes ≡ b → start_as read unread command (cond b Other (kind_of_read read file (read file.bytes))) ≡ Ok start → IsStarted command start.file start.face
-  other_is command file true start e h = absurd (cc)
-  other_is command file false start e h = read_is command file (read file.bytes) start e refl h
+has_its_key : (name : List ℕ) (x : Option Object) → has_key name x ≡ true → (o : Object) × (x ≡ Some o) × (key_of o ≡ name)
+has_its_key name None h = cc
+has_its_key name (Some o) h = (o, refl, same_bytes (key_of o) name h)
 
-  file_is : (command : Quick) (o : Option WorldFile) (start : Start) → start_as read unread command (kind_of_file read EM_X86_64 o) ≡ Ok start → IsStarted command start.file start.face
-  file_is command None start h = absurd (cc)
-  file_is command (Some file) start h = other_is command file (is_other EM_X86_64 file.bytes) start refl h
+module _ (names : List (List ℕ)) (loaded : Loaded) where
+  needs_fit : (i : ℕ) (needs : List (List ℕ)) (j : ℕ) (r : Request) → list_all (fits_need names loaded) needs ≡ true → slice_get (map (λ n. record { by = i; name = n }) needs) j ≡ Some r → fits_need names loaded r.name ≡ true
+  needs_fit i [] j r h g = cc
+  needs_fit i (n ∷ needs) zero r h g =
+      let same : record { by = i; name = n } ≡ r = cc in
+      ap (λ (q : Request). fits_need names loaded q.name) (sym same) ∙ (and_parts (fits_need names loaded n) (list_all (fits_need names loaded) needs) h).0
+  needs_fit i (n ∷ needs) (suc j) r h g = needs_fit i needs j r (and_parts (fits_need names loaded n) (list_all (fits_need names loaded) needs) h).1 g
 
-  -- a file of the same bytes starts alike
-  file_starts : (command : Quick) (o : Option WorldFile) (file copy : WorldFile) (face : ThinFace) → IsStarted command file face → copy.bytes ≡ file.bytes → o ≡ Some copy → start_as read unread command (kind_of_file read EM_X86_64 o) ≡ Ok (record { file = copy; face = face })
-  file_starts command o file copy face started bytes lies =
-      let right : is_other EM_X86_64 copy.bytes ≡ false = ap (is_other EM_X86_64) bytes ∙ started.right in
-      let readable : read copy.bytes ≡ Ok face = ap read bytes ∙ started.readable in
-      ap (λ p. start_as read unread command (kind_of_file read EM_X86_64 p)) lies
-      ∙ ap (λ b. start_as read unread command (cond b Other (kind_of_read read copy (read copy.bytes)))) right
-      ∙ ap (λ r. start_as read unread command (kind_of_read read copy r)) readable
-      ∙ ap (λ b. cond b (Ok (record { file = copy; face = face })) (Err NotBuilt)) started.listed
+  needs_of : (o : Object) → fits_as_object names loaded o ≡ true → list_all (fits_need names loaded) o.face.needs ≡ true
+  needs_of o h =
+      let bare = and_parts (is_none o.face.rpath) (is_none o.face.runpath && list_all (fits_need names loaded) o.face.needs) h in
+      (and_parts (is_none o.face.runpath) (list_all (fits_need names loaded) o.face.needs) bare.1).1
 
-  module _ (command : Quick) (start : Start) (here : Loaded) (plain : All HasNoSlash command.names) (plain_copy : HasNoSlash (codes "AppRun")) (world : World) (dirs_here : List (List ℕ)) (runs : run_by read unread world dirs_here command.names start ≡ Ok here) (host : World) (dirs : List (List ℕ)) (place : List ℕ) (copy : WorldFile) (w : IsHost read unread start here host dirs place copy) where
-    run_here : IsRun (target_of NotBuilt MOST_OBJECTS (listed_search (linked read unread) (stops read unread) EM_X86_64 world dirs_here command.names)) (program_of start) [] here
-    unfolding run_by
-    run_here = is_run NotBuilt MOST_OBJECTS (listed_search (linked read unread) (stops read unread) EM_X86_64 world dirs_here command.names) (program_of start) [] (lit< tt) here runs
+  bare_of : (o : Object) → fits_as_object names loaded o ≡ true → HasNoRunPath o
+  bare_of o h =
+      let bare = and_parts (is_none o.face.rpath) (is_none o.face.runpath && list_all (fits_need names loaded) o.face.needs) h in
+      record {
+        rpath = none_is o.face.rpath bare.0;
+        runpath = none_is o.face.runpath (and_parts (is_none o.face.runpath) (list_all (fits_need names loaded) o.face.needs) bare.1).0;
+      }
 
-    copy_is : copy.path ≡ joined place (codes "AppRun")
-    copy_is = (find_at (joined place (codes "AppRun")) host copy w.lies).2
+  -- each request for a need of these objects fits
+  asked_from : (i : ℕ) (os : List Object) (j : ℕ) (r : Request) → list_all (fits_as_object names loaded) os ≡ true → slice_get (needs_from i os) j ≡ Some r → fits_need names loaded r.name ≡ true
+  asked_from i [] j r h g = cc
+  asked_from i (o ∷ os) j r h g =
+      let both = and_parts (fits_as_object names loaded o) (list_all (fits_as_object names loaded) os) h in
+      elim (slice_get-append (map (λ n. record { by = i; name = n }) o.face.needs) (needs_from (suc i) os) j r g) [
+        | inl e ↦ needs_fit i o.face.needs j r (needs_of o both.0) e
+        | inr e ↦ asked_from (suc i) os e.0 r both.1 e.1
+      ]
 
-    carried : IsCarried (linked read unread) EM_X86_64 host dirs here.objs place (codes "AppRun") copy
-    carried = record { path = copy_is; own = w.own; apart = w.apart; files = w.files; ids = w.ids }
+  requests_fit : (p : Object) (os : List Object) (j : ℕ) (r : Request) → list_all (fits_as_object names loaded) os ≡ true → slice_get os 0 ≡ Some p → slice_get (requests_of p.face.needs 1 os) j ≡ Some r → fits_need names loaded r.name ≡ true
+  requests_fit p [] j r h first g = cc
+  requests_fit p (o ∷ os) j r h first g =
+      let same : o ≡ p = cc in
+      asked_from 0 (o ∷ os) j r h (ap (λ (x : Object). slice_get (requests_of x.face.needs 1 (o ∷ os)) j) same ∙ g)
 
-    run_there : IsRun (target_of NotBuilt MOST_OBJECTS (listed_search (linked read unread) (stops read unread) EM_X86_64 host dirs command.names)) (program_of (start_there start copy)) [] (loaded_there host dirs copy here)
-    run_there = copied_there (linked read unread) (stops read unread) EM_X86_64 world dirs_here command.names NotBuilt MOST_OBJECTS (program_of start) here host dirs place (codes "AppRun") copy refl run_here carried w.dirs_normal w.place_normal plain plain_copy
+  listed_parts : is_all_listed names loaded ≡ true → (fits_as_program names (face_of_object (slice_get loaded.objs 0)) ≡ true) × (list_all (fits_as_object names loaded) loaded.objs ≡ true)
+  unfolding is_all_listed
+  listed_parts h = and_parts (fits_as_program names (face_of_object (slice_get loaded.objs 0))) (list_all (fits_as_object names loaded) loaded.objs) h
 
-    runs_there : run_by read unread host dirs command.names (start_there start copy) ≡ Ok (loaded_there host dirs copy here)
-    unfolding run_by
-    runs_there = run_found NotBuilt MOST_OBJECTS (listed_search (linked read unread) (stops read unread) EM_X86_64 host dirs command.names) (program_of (start_there start copy)) [] (lit< tt) (loaded_there host dirs copy here) run_there
+module _ (read : List ℕ → Result Face Flaw) (setting : Setting) (world : World) (path : List ℕ) (names : List (List ℕ)) (loaded : Loaded) (ends : List Loaded) (list : IsLoadList read setting world path [] loaded ends) (listed : is_all_listed names loaded ≡ true) where
+  -- each name that was asked for fits
+  asked_fits : (m : ℕ) (a : Asked) → slice_get loaded.log m ≡ Some a → fits_need names loaded a.request.name ≡ true
+  asked_fits m a g =
+      let run = forget read setting world path list.program [] loaded ends list.run in
+      let phase = run.1 in
+      let asked : map (λ (x : Asked). x.request) phase.more ≡ requests_of list.program.face.needs 1 run.0.objs = sym (append-nil (map (λ (x : Asked). x.request) phase.more)) ∙ phase.asked in
+      let more : slice_get phase.more m ≡ Some a = ap (λ (xs : List Asked). slice_get xs m) (sym phase.log) ∙ ap (λ (s : Loaded). slice_get s.log m) (sym run.2) ∙ g in
+      let request : slice_get (requests_of list.program.face.needs 1 run.0.objs) m ≡ Some a.request = ap (λ (rs : List Request). slice_get rs m) (sym asked) ∙ map_get (λ (x : Asked). x.request) phase.more m a more in
+      let first : slice_get run.0.objs 0 ≡ Some list.program = (slice_get-take 1 run.0.objs 0 list.program (ap (λ (os : List Object). slice_get os 0) phase.objs)).1 in
+      requests_fit names loaded list.program run.0.objs m a.request (ap (λ (s : Loaded). list_all (fits_as_object names loaded) s.objs) (sym run.2) ∙ (listed_parts names loaded listed).1) first request
 
-    first_here : slice_get here.objs 0 ≡ Some (program_of start)
-    first_here = first_object (linked read unread) (stops read unread) EM_X86_64 world dirs_here command.names NotBuilt MOST_OBJECTS (program_of start) here refl run_here
+  no_soname : (o : Object) → slice_get loaded.objs 0 ≡ Some o → o.face.soname ≡ None
+  no_soname o g =
+      let fits : fits_as_program names (Some o.face) ≡ true = ap (λ (x : Option Object). fits_as_program names (face_of_object x)) (sym g) ∙ (listed_parts names loaded listed).0 in
+      none_is o.face.soname (and_parts (is_none o.face.soname) (has_listed_interpreter names o.face.interp) fits).0
 
-    goes_there : (m : ℕ) (a : Asked) → slice_get here.log m ≡ Some a → GoesToFirstRight host dirs (loaded_there host dirs copy here) a
-    goes_there m a g =
-        let goes = (run_goes (linked read unread) (stops read unread) EM_X86_64 world dirs_here command.names NotBuilt MOST_OBJECTS (program_of start) here refl run_here).by_key m a g in
-        let o : Loadable = goes.0 in
-        let has = w.files a.target o goes.2 goes.1 in
-        let is : object_there EM_X86_64 host dirs o ≡ with_file o (Some has.file) = ap (with_file o) has.found in
-        record {
-          file = has.file;
-          object = object_there EM_X86_64 host dirs o;
-          first = ap (λ n. first_right EM_X86_64 host (listed_paths dirs n)) (sym goes.3) ∙ has.found;
-          target = get_there EM_X86_64 host dirs copy here.objs a.target o goes.2 goes.1;
-          path = ap (λ (x : Loadable). x.path) is;
-          id = ap (λ (x : Loadable). x.id) is;
-        }
+  -- a list that is all on a list of file names goes by names
+  goes_by_names : All IsFileName names → IsByNames loaded
+  goes_by_names plain = record {
+    soname = no_soname;
+    run_path = λ o g. bare_of names loaded o (all_pass (fits_as_object names loaded) loaded.objs 0 o (listed_parts names loaded listed).1 g);
+    goes = record {
+      by_key = λ m a g.
+          let need : List ℕ = a.request.name in
+          let t : ℕ = target_in loaded.log need in
+          let on = and_parts (is_on_list names need) (not (t == 0) && has_key need (slice_get loaded.objs t)) (asked_fits m a g) in
+          let other = and_parts (not (t == 0)) (has_key need (slice_get loaded.objs t)) on.1 in
+          let target : t ≡ a.target = name_has_target read setting world path [] loaded ends list m a g in
+          let key = has_its_key need (slice_get loaded.objs t) other.1 in
+          (key.0, ap (slice_get loaded.objs) (sym target) ∙ key.1, subst (λ (k : ℕ). 0 < k) target (above_zero t other.0), key.2);
+    };
+    names = λ m a g.
+        let need : List ℕ = a.request.name in
+        let t : ℕ = target_in loaded.log need in
+        is_name names need plain (and_parts (is_on_list names need) (not (t == 0) && has_key need (slice_get loaded.objs t)) (asked_fits m a g)).0;
+  }
 
-    asked_there : (path : List ℕ) → IsAskedFor EM_X86_64 host dirs (loaded_there host dirs copy here) path → IsCopyOrAskedFor host dirs (copy_path start place) here.log path
-    asked_there path (inl v) = inl (v.2 ∙ first_there EM_X86_64 host dirs copy here.objs (program_of start) v.0 first_here v.1 ∙ copy_is)
-    asked_there path (inr v) = inr v
+pub runs_on_hosts : (world : World) (command : Quick) (start : WorldFile) (loaded : Loaded) → All IsFileName command.names → IsPackable world command start loaded → RunsOnHosts start loaded
+runs_on_hosts world command start loaded plain packable host setting place copy machine carried =
+    let list : IsLoadList face_or_flaw default_setting world command.program [] loaded packable.loads.ends = subst (λ (s : Loaded). IsLoadList face_or_flaw default_setting world command.program [] s packable.loads.ends) packable.loaded_is packable.loads.list in
+    loads_alike face_or_flaw default_setting setting world host command.program loaded packable.loads.ends start place (codes "AppRun") copy list
+    (goes_by_names face_or_flaw default_setting world command.program command.names loaded packable.loads.ends list packable.listed plain) packable.lies machine carried
 
-    runs_copied : IsStarted command start.file start.face → RunsThere read unread command start here host dirs place copy
-    runs_copied started = record {
-      starts = λ out. file_starts (command_there start place out command) (file_at host (copy_path start place)) start.file copy start.face (record { right = started.right; readable = started.readable; listed = started.listed }) w.bytes w.lies;
-      run = runs_there;
-      goes = goes_there;
-      opens = λ path h. asked_there path (opens_asked EM_X86_64 host dirs command.names (loaded_there host dirs copy here) path h);
-    }
+-- ---- the names of a command are file names
 
-  pub runs_alike_by : (world : World) (dirs_here : List (List ℕ)) (command : Quick) → All HasNoSlash command.names → HasNoSlash (codes "AppRun") → RunsAlikeBy read unread world dirs_here command
-  runs_alike_by world dirs_here command plain plain_copy start here starts runs host dirs place copy w =
-      runs_copied command start here plain plain_copy world dirs_here runs host dirs place copy w (file_is command (file_at world command.program) start starts)
+all_names : (names : List (List ℕ)) → list_all is_file_name_text names ≡ true → All IsFileName names
+all_names [] h = All-nil IsFileName
+all_names (name ∷ names) h =
+    let both = and_parts (is_file_name_text name) (list_all is_file_name_text names) h in
+    All-cons IsFileName name names (IsFileName-from_test name both.0) (all_names names both.1)
 
-plain_copy : HasNoSlash (codes "AppRun")
-plain_copy = no_slash (codes "AppRun") (IsFileName-from_test (codes "AppRun") refl)
+default_test : list_all is_file_name_text default_names_list ≡ true
+default_test = refl
+
+names_are : (names : List (List ℕ)) → list_all is_file_name_text names ≡ true → All IsFileName (names_of names)
+names_are [] h = all_names default_names_list default_test
+names_are (name ∷ names) h = all_names (name ∷ names) h
+
+test_names : (b : Bool) (program out : List ℕ) (names : List (List ℕ)) (command : Quick) → list_all is_file_name_text names ≡ b → ◌≡◌ {A = Option Quick} (cond b (Some (record { program = program; out = out; names = names_of names })) None) (Some command) → All IsFileName command.names
+test_names true program out names command e h =
+    let is : record { program = program; out = out; names = names_of names } ≡ command = cc in
+    subst (λ (c : Quick). All IsFileName c.names) is (names_are names e)
+test_names false program out names command e h = cc
+
+with_names : (program out : Option (List ℕ)) (names : List (List ℕ)) (command : Quick) → quick_with program out names ≡ Some command → All IsFileName command.names
+with_names (Some program) (Some out) names command h = test_names (list_all is_file_name_text names) program out names command refl h
+with_names (Some program) None names command h = cc
+with_names None out names command h = cc
+
+quick_names : (words : List (List ℕ)) (command : Quick) → quick_of words ≡ Some command → All IsFileName command.names
+quick_names [] command h = cc
+quick_names (program ∷ []) command h = cc
+quick_names (program ∷ out ∷ names) command h = with_names (path_in program) (path_in out) names command h
+
+asked_names : (words : List (List ℕ)) (quick : Option Quick) (command : Quick) → quick_of words ≡ quick → option_map (λ q. AsksQuick q) quick ≡ Some (AsksQuick command) → All IsFileName command.names
+asked_names words None command e h = cc
+asked_names words (Some quick) command e h =
+    let same : quick ≡ command = cc in
+    quick_names words command (e ∙ ap Some same)
+
+verb_names : (b : Bool) (words : List (List ℕ)) (command : Quick) → cond b (option_map (λ q. AsksQuick q) (quick_of words)) None ≡ Some (AsksQuick command) → All IsFileName command.names
+verb_names true words command h = asked_names words (quick_of words) command refl h
+verb_names false words command h = cc
+
+shape_names : (words : List (List ℕ)) (command : Quick) → shape_of words ≡ Some (AsksQuick command) → All IsFileName command.names
+shape_names [] command h = cc
+shape_names (verb ∷ words) command h = verb_names (bytes_eq verb (codes "quick")) words command h
+
+word_names : (b : Bool) (words : List (List ℕ)) (command : Quick) → cond b None (shape_of words) ≡ Some (AsksQuick command) → All IsFileName command.names
+word_names true words command h = cc
+word_names false words command h = shape_names words command h
+
+pub command_names : (words : List (List ℕ)) (command : Quick) → command_of words ≡ Some (AsksQuick command) → All IsFileName command.names
+command_names words command h = word_names (list_any is_unshaped words) words command h
 
 -- the promise of packing, for the words of a call
 pub runs_alike : (words : List (List ℕ)) (world : World) → RunsAlike (command_of words) world
 unfolding RunsAlike
-runs_alike words world command asked = runs_alike_by thin_face_of not_read world default_dirs command (plain_names words command asked) plain_copy
+runs_alike words world command start loaded asked packable = runs_on_hosts world command start loaded (command_names words command asked) packable
 
--- what is packed is the copy of a program that can be started and whose list has no stop
-record IsPacked (world : World) (command : Quick) (packed : Package) : Type 0 where
-  start : Start
-  here : Loaded
-  starts : start_of world command ≡ Ok start
-  run : run_by thin_face_of not_read world default_dirs command.names start ≡ Ok here
-  items : packed.items ≡ app_run start.file ∷ []
+-- ---- what a call has written when it is done
 
-run_packed : (world : World) (command : Quick) (packed : Package) (start : Start) (r : Result Loaded Refusal) → start_of world command ≡ Ok start → run_by thin_face_of not_read world default_dirs command.names start ≡ r → next (next r (λ loaded. Ok (length loaded.objs - 1))) (λ hosts. Ok (package_of start hosts)) ≡ Ok packed → IsPacked world command packed
-run_packed world command packed start (Ok here) starts run h =
-    let is : package_of start (length here.objs - 1) ≡ packed = cc in
-    record { start = start; here = here; starts = starts; run = run; items = ap (λ (p : Package). p.items) (sym is) }
-run_packed world command packed start (Err refusal) starts run h = absurd (cc)
-
-start_packed : (world : World) (command : Quick) (packed : Package) (r : Result Start Refusal) → start_of world command ≡ r → next r (λ start. next (hosts_of world command.names start) (λ hosts. Ok (package_of start hosts))) ≡ Ok packed → IsPacked world command packed
-start_packed world command packed (Ok start) starts h = run_packed world command packed start (run_by thin_face_of not_read world default_dirs command.names start) starts refl h
-start_packed world command packed (Err refusal) starts h = absurd (cc)
-
-is_packed : (world : World) (command : Quick) (packed : Package) → outcome_of world command ≡ Ok packed → IsPacked world command packed
-unfolding outcome_of
-is_packed world command packed h = start_packed world command packed (start_of world command) refl h
-
--- a folder that had no files has those that it gained
-gained : (items : List MemFile) (finished : Option (List MemFile)) (files : List MemFile) → ((before : List MemFile) → finished ≡ Some before → before ≡ []) → option_map (λ before. before ++ items) finished ≡ Some files → files ≡ items
-gained items None files empty h = absurd (cc)
-gained items (Some before) files empty h =
-    let is : before ++ items ≡ files = cc in
-    sym is ∙ ap (λ l. l ++ items) (empty before refl)
-
-done_portable : (words : List (List ℕ)) (before after : Outside) → Ends (command_of words) before after Done → (world : World) → before.world ≡ Some world → (files : List MemFile) → after.finished ≡ Some files → IsPortable (command_of words) world files
-unfolding RunsAlike
-done_portable words before after ends world told files held =
-    let written = ends.1 in
-    let packed = is_packed world written.command written.packed (written.outcome world told) in
+package_portable : (words : List (List ℕ)) (command : Quick) (world : World) (whole : Whole) (before after : View Folder) → command_of words ≡ Some (AsksQuick command) → IsPackage world command whole → IsWhole whole before after → IsPortable (command_of words) world before after
+package_portable words command world whole before after asked wrapped written =
+    let packable : IsPackable world command wrapped.file wrapped.loads.loaded = record { lies = wrapped.lies; loads = wrapped.loads; loaded_is = refl; listed = wrapped.listed } in
     record {
-      command = written.command;
-      quick = written.quick;
-      start = packed.start;
-      here = packed.here;
-      starts = packed.starts;
-      run = packed.run;
-      files_are = gained written.packed.items before.finished files written.empty (sym written.files ∙ held) ∙ packed.items;
-      hosts = runs_alike words world written.command written.quick packed.start packed.here packed.starts packed.run;
+      command = command;
+      quick = asked;
+      start = wrapped.file;
+      loaded = wrapped.loads.loaded;
+      packable = packable;
+      files = λ held told. (filled whole held, written.filled ∙ ap (option_map (filled whole)) told, ap (λ (w : Whole). held.finished ++ w.items) wrapped.whole_is);
+      hosts = runs_on_hosts world command wrapped.file wrapped.loads.loaded (command_names words command asked) packable;
     }
 
--- the files that a call has written when it is done
-pub files_portable : (words : List (List ℕ)) (before after : Outside) (status : Status) → Ends (command_of words) before after status → status ≡ Done → (world : World) → before.world ≡ Some world → (files : List MemFile) → after.finished ≡ Some files → IsPortable (command_of words) world files
-files_portable words before after status ends done = done_portable words before after (subst (λ (s : Status). Ends (command_of words) before after s) done ends)
+answer_portable : (words : List (List ℕ)) (command : Quick) (world : World) (answer : Answer) (before after : View Folder) → command_of words ≡ Some (AsksQuick command) → IsPackedBy world command (Ok answer) → IsGiven answer before after → IsPortable (command_of words) world before after
+answer_portable words command world (Says text) before after asked packed given = absurd packed
+answer_portable words command world (Packs whole) before after asked packed given = package_portable words command world whole before after asked packed given
+
+done_portable : (words : List (List ℕ)) (asked : Option Command) (before after : Outside) → command_of words ≡ asked → Ends asked before after Done → WhereTold before.tree.told (λ world. IsPortable (command_of words) world before.folder after.folder)
+done_portable words None before after asked ends world told = absurd ends
+done_portable words (Some (AsksQuick command)) before after asked ends world told =
+    answer_portable words command world ends.1.answer before.folder after.folder asked (ends.1.outcome world told) ends.1.given
+
+pub ended_portable : (words : List (List ℕ)) (before after : Outside) (status : Status) → Ends (command_of words) before after status → status ≡ Done → WhereTold before.tree.told (λ world. IsPortable (command_of words) world before.folder after.folder)
+ended_portable words before after status ends done = done_portable words (command_of words) before after refl (subst (λ (s : Status). Ends (command_of words) before after s) done ends)

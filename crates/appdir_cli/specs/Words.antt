@@ -1,16 +1,14 @@
 -- The shapes of the words.
-use Rattle.std.specs.Prelude.{ℕ, List, [], ◌∷◌, Bool, true, cond, ◌==◌, Option, Some, None, codes, map, string_bytes, String, All, IsUtf8}
+use Rattle.std.specs.Prelude.{ℕ, List, [], ◌∷◌, Bool, true, cond, ◌==◌, Option, Some, None, option_map, codes, map, string_bytes, String}
 use Rattle.std.specs.Global.{Global}
 use Rattle.std.specs.List.{list_any, list_all}
 use Rattle.std.specs.Result.{result_ok}
 use Rattle.std.specs.Str.{bytes_eq}
 use Rattle.path_text.specs.Path.{path_of}
 use Rattle.path_text.specs.FileName.{is_file_name_text}
+use Rattle.appdir_cli.specs.declared.words.Command.{Command}
+use Rattle.appdir_cli.specs.declared.words.Command.TheVariants.{Quick as AsksQuick}
 use Rattle.appdir_cli.specs.declared.words.Quick.{Quick}
-
--- names that are all UTF-8
-pub record AreTexts (names : List (List ℕ)) : Type 0 where
-  pub utf8 : All IsUtf8 names
 
 -- the words as texts
 abbrev pub texts : List (String Global) → List (List ℕ)
@@ -41,19 +39,19 @@ abbrev pub names_of : List (List ℕ) → List (List ℕ)
 names_of [] = default_names_list
 names_of (name ∷ names) = name ∷ names
 
-abbrev pub packed : Option (List ℕ) → Option (List ℕ) → List (List ℕ) → Option Quick
-packed (Some p) (Some o) ns = cond (list_all is_file_name_text ns) (Some (record { program = p; out = o; names = names_of ns })) None
-packed _ _ ns = None
+abbrev pub quick_with : Option (List ℕ) → Option (List ℕ) → List (List ℕ) → Option Quick
+quick_with (Some p) (Some o) ns = cond (list_all is_file_name_text ns) (Some (record { program = p; out = o; names = names_of ns })) None
+quick_with _ _ ns = None
 
 -- PROGRAM OUT [NAME ..]
 abbrev pub quick_of : List (List ℕ) → Option Quick
-quick_of (program ∷ out ∷ names) = packed (path_in program) (path_in out) names
+quick_of (program ∷ out ∷ names) = quick_with (path_in program) (path_in out) names
 quick_of _ = None
 
-abbrev pub shape_of : List (List ℕ) → Option Quick
-shape_of (verb ∷ words) = cond (bytes_eq verb (codes "quick")) (quick_of words) None
+abbrev pub shape_of : List (List ℕ) → Option Command
+shape_of (verb ∷ words) = cond (bytes_eq verb (codes "quick")) (option_map (λ quick. AsksQuick quick) (quick_of words)) None
 shape_of [] = None
 
 -- the command that the words have the shape of, or none
-abbrev pub command_of : List (List ℕ) → Option Quick
+abbrev pub command_of : List (List ℕ) → Option Command
 command_of words = cond (list_any is_unshaped words) None (shape_of words)

@@ -1,26 +1,25 @@
 //! The command line of the AppDir builder: words in, an answer and an AppDir out.
 #![tactic(auto)]
 
-mod copies;
+mod answer;
 mod damage;
+mod delivering;
+mod fitting;
 mod loading;
+mod numbers;
+mod obeying;
 mod opening;
-mod package;
-mod preparing;
+mod packing;
+mod reading;
 mod refusal;
 mod saying;
-mod starting;
 mod status;
-mod stop;
-#[cfg(test)]
-mod tests;
-mod thin_faces;
 mod top;
 mod words;
 mod writing;
 
-pub use package::Package;
+pub use answer::{Answer, Whole};
 pub use refusal::Refusal;
 pub use status::{Status, exit_number, status_name};
 pub use top::appdir_main;
-pub use words::Quick;
+pub use words::{Command, Quick};

@@ -1,240 +1,178 @@
-ghost use Rattle.std.specs.Prelude.{◌≡◌, ◌≤◌, ◌<◌, All, IfOk, IsUtf8, length, slice_get, suc};
-ghost use Rattle.std.specs.List.{list_any};
-ghost use Rattle.load_model.specs.ListedSearch.{may_be};
-ghost use Rattle.path_text.specs.FileName.{IsFileName};
-ghost use Rattle.appdir_cli.specs.Loading.{AreSearched, IsAnswer, asked, asked_all, asked_by, brought, has_id, has_name, leaving, program_object, walked};
-ghost use Rattle.appdir_cli.specs.Outcome.{MOST_OBJECTS as most_objects, hosts_of};
-ghost use Rattle.appdir_cli.specs.Step.{IsStepAnswer};
+//! The load list of a program, over the tree. Definitions: `specs/Packing.antt` (`LoadsAs`) and `specs/Stops.antt`.
 
-mod directories;
-#[cfg(test)]
-mod tests;
+ghost use Rattle.std.specs.Prelude.{◌≡◌, IfOk, All};
+ghost use Rattle.path_text.specs.Path.{IsNormalPath, path_of};
+ghost use Rattle.ports.specs.View.{OnlyReads};
+ghost use Rattle.appdir_cli.specs.Packing.{LoadsAs, default_dirs as default_dirs_list, default_setting};
+ghost use Rattle.appdir_cli.specs.Loading.{IsTreeLoaded};
+ghost use Rattle.byte_view.specs.declared.constants.TheConstants.{EM_X86_64 as THE_MACHINE};
+ghost use Rattle.appdir_cli.specs.Steps.{IsStepAnswer};
+ghost use Rattle.appdir_cli.specs.Stops.{stop_of_load, stop_of_open, stop_of_search};
 
-use crate::copies::copy_path;
+use crate::answer::Stop;
+use crate::opening::{FaceTable, FileOpener};
 use crate::refusal::Refusal;
-use crate::starting::{Start, is_listed};
-use crate::stop::Stop;
-use crate::thin_faces::ThinFace;
-use directories::{default_dirs, search};
-use load_model::{List, Name, WorldFile};
-use path_text::{Abs, NoMemory};
+use byte_view::constants::EM_X86_64;
+use load_model::{List, LoadRefusal, OpenFault, Run, Setting};
+use load_order::{LoadStop, load};
+use path_text::{Abs, NoMemory, PathFault};
 use ports::Tree;
+use search_paths::SearchStop;
 use std::alloc::Global;
 
-/// The most objects of one load list.
-const MOST_OBJECTS: usize = 1024;
-
-/// A file of the load list, with the name that brought it, which the program has not.
+/// A load list, over the faces of its objects.
 #[derive(Drop)]
-pub struct LoadedObject {
-    pub path: Abs,
-    pub id: Name,
-    pub soname: Option<Name>,
-    pub needs: List<Name>,
+pub struct LoadedProgram {
+    pub run: Run,
+    pub faces: FaceTable,
 }
 
-/// Loads what the program needs, and counts the libraries.
-pub fn load<T: Tree>(
+/// Loads a program as the loader of the default setting does.
+pub fn load_program<T: Tree>(
     alloc: Global,
     tree: &mut T,
-    names: &[Name],
-    start: &Start,
-) -> Result<u32, Stop>
-    requires file_names { All IsFileName names.now }
-    requires utf8 { All IsUtf8 names.now }
-    ensures answer { IsStepAnswer (T.told tree.old) (T.faults tree.old) (T.faults tree.new) (λ world. hosts_of world names.now start.now) result }
-    ensures never_falls { T.faults tree.old ≤ T.faults tree.new }
-    ensures world_stays { T.told tree.new ≡ T.told tree.old }
+    program: &Abs,
+) -> Result<LoadedProgram, Stop>
+    ensures answer { IsStepAnswer (T.seen tree.old) (T.seen tree.new) (λ world outcome. LoadsAs world program.now outcome) result }
+    ensures only_reads { OnlyReads (T.seen tree.old) (T.seen tree.new) }
 {
-    let dirs = default_dirs(alloc)?;
-    let mut objects = List::new(alloc);
-    objects.push(copied_program(alloc, start)?)?;
-    walk(alloc, tree, dirs.as_slice(), names, &mut objects)?;
-    Ok((objects.as_slice().len() - 1) as u32)
+    let setting = default_setting(alloc)?;
+    load_with(alloc, tree, &setting, program)
 }
 
-fn copied_program(alloc: Global, start: &Start) -> Result<LoadedObject, NoMemory>
-    ensures { IfOk result (λ object. object ≡ program_object start.now) }
+/// Loads a program as the loader of this setting does, which is the default one.
+fn load_with<T: Tree>(
+    alloc: Global,
+    tree: &mut T,
+    setting: &Setting,
+    program: &Abs,
+) -> Result<LoadedProgram, Stop>
+    requires { setting.now ≡ default_setting }
+    ensures answer { IsStepAnswer (T.seen tree.old) (T.seen tree.new) (λ world outcome. LoadsAs world program.now outcome) result }
+    ensures only_reads { OnlyReads (T.seen tree.old) (T.seen tree.new) }
 {
-    Ok(LoadedObject {
-        path: copy_path(alloc, &start.file.path)?,
-        id: Name::from_bytes(alloc, start.file.id.as_bytes())?,
-        soname: None,
-        needs: copied_names(alloc, start.face.needs.as_slice())?,
+    let mut opener = FileOpener {
+        tree,
+        table: FaceTable::new(alloc),
+    };
+    let loaded = load_over(alloc, &mut opener, setting, program);
+    let FileOpener { tree: lent, table } = opener;
+    let _ = lent;
+    match loaded {
+        Ok(run) => Ok(LoadedProgram { run, faces: table }),
+        Err(stop) => Err(stop_of_load(stop)),
+    }
+}
+
+/// Loads a program over an opener, which still borrows the same tree afterwards.
+fn load_over<T: Tree>(
+    alloc: Global,
+    opener: &mut FileOpener<'_, T>,
+    setting: &Setting,
+    program: &Abs,
+) -> Result<Run, LoadStop>
+    requires { setting.now.machine ≡ THE_MACHINE }
+    ensures same_tree { opener.new.tree.ghost_name ≡ opener.old.tree.ghost_name }
+    ensures answer { IsTreeLoaded setting.now (T.seen opener.old.tree.now) (T.seen opener.new.tree.now) opener.new.table program.now result }
+    ensures only_reads { OnlyReads (T.seen opener.old.tree.now) (T.seen opener.new.tree.now) }
+{
+    load(alloc, opener, setting, program, &[])
+}
+
+/// Why a program that is not loaded ends the command.
+fn stop_of_load(stop: LoadStop) -> Stop
+    ensures { result ≡ stop_of_load stop }
+{
+    match stop {
+        LoadStop::NoProgram(path) => Stop::Refused(Refusal::Load(LoadRefusal::NoProgram(path))),
+        LoadStop::MissingLibrary { name, by } => {
+            Stop::Refused(Refusal::Load(LoadRefusal::MissingLibrary(name, by)))
+        }
+        LoadStop::RelativeNeed { name, by } => {
+            Stop::Refused(Refusal::Load(LoadRefusal::RelativeNeed(name, by)))
+        }
+        LoadStop::TokenInNeed { name, by } => {
+            Stop::Refused(Refusal::Load(LoadRefusal::TokenInNeed(name, by)))
+        }
+        LoadStop::TooManyObjects(path) => {
+            Stop::Refused(Refusal::Load(LoadRefusal::TooManyObjects(path)))
+        }
+        LoadStop::Search(stop) => stop_of_search(stop),
+        LoadStop::NoMemory => Stop::NoMemory,
+    }
+}
+
+fn stop_of_search(stop: SearchStop) -> Stop
+    ensures { result ≡ stop_of_search stop }
+{
+    match stop {
+        SearchStop::RelativeItem(item) => {
+            Stop::Refused(Refusal::Load(LoadRefusal::RelativeItem(item)))
+        }
+        SearchStop::TokenUnset(item) => {
+            Stop::Refused(Refusal::Load(LoadRefusal::TokenUnset(item)))
+        }
+        SearchStop::Open(fault) => stop_of_open(fault),
+        SearchStop::NoMemory => Stop::NoMemory,
+    }
+}
+
+fn stop_of_open(fault: OpenFault) -> Stop
+    ensures { result ≡ stop_of_open fault }
+{
+    match fault {
+        OpenFault::Read => Stop::Read,
+        OpenFault::Damaged { path, flaw } => {
+            Stop::Refused(Refusal::Load(LoadRefusal::Damaged(path, flaw)))
+        }
+        OpenFault::NoMemory => Stop::NoMemory,
+    }
+}
+
+/// The loader's setting: programs of x86-64, the default directories, no text for the tokens LIB and PLATFORM.
+fn default_setting(alloc: Global) -> Result<Setting, NoMemory>
+    ensures { IfOk result (λ setting. setting ≡ default_setting) }
+{
+    Ok(Setting {
+        machine: EM_X86_64,
+        dirs: default_dirs(alloc)?,
+        lib: None,
+        platform: None,
     })
 }
 
-fn copied_names(alloc: Global, names: &[Name]) -> Result<List<Name>, NoMemory>
-    ensures { IfOk result (λ copies. copies ≡ names.now) }
+/// The directories in which a loader looks for libraries, unless it is told otherwise.
+fn default_dirs(alloc: Global) -> Result<List<Abs>, NoMemory>
+    ensures { IfOk result (λ dirs. dirs ≡ default_dirs_list) }
 {
-    let mut copies = List::new(alloc);
-    for name in names {
-        copies.push(Name::from_bytes(alloc, name.as_bytes())?)?;
-    }
-    Ok(copies)
+    let mut dirs = List::new(alloc);
+    dirs.push(directory(alloc, b"/usr/local/lib")?)?;
+    dirs.push(directory(alloc, b"/lib/x86_64-linux-gnu")?)?;
+    dirs.push(directory(alloc, b"/usr/lib/x86_64-linux-gnu")?)?;
+    dirs.push(directory(alloc, b"/lib64")?)?;
+    dirs.push(directory(alloc, b"/usr/lib64")?)?;
+    dirs.push(directory(alloc, b"/lib")?)?;
+    dirs.push(directory(alloc, b"/usr/lib")?)?;
+    Ok(dirs)
 }
 
-/// Asks for all needs of the objects in order, and of those that this brings.
-fn walk<T: Tree>(
-    alloc: Global,
-    tree: &mut T,
-    dirs: &[Abs],
-    names: &[Name],
-    objects: &mut List<LoadedObject>,
-) -> Result<(), Stop>
-    requires listed { AreSearched dirs.now names.now }
-    requires few { length objects.old ≤ most_objects }
-    ensures answer { IsStepAnswer (T.told tree.old) (T.faults tree.old) (T.faults tree.new) (λ world. walked world dirs.now names.now (suc most_objects) 0 objects.old) (leaving objects.new result) }
-    ensures few { length objects.new ≤ most_objects }
-    ensures grown { length objects.old ≤ length objects.new }
-    ensures never_falls { T.faults tree.old ≤ T.faults tree.new }
-    ensures world_stays { T.told tree.new ≡ T.told tree.old }
+/// A path that is in normal form.
+fn directory(alloc: Global, text: &[u8]) -> Result<Abs, NoMemory>
+    requires { path_of text.now ≡ Ok text.now }
+    ensures { IfOk result (λ dir. dir ≡ text.now) }
 {
-    let mut number = 0;
-    'walk: while number < objects.as_slice().len() {
-        ask_by(alloc, tree, dirs, names, number, objects)?;
-        number += 1;
-    }
-    Ok(())
-}
-
-/// Asks for all needs of one object.
-fn ask_by<T: Tree>(
-    alloc: Global,
-    tree: &mut T,
-    dirs: &[Abs],
-    names: &[Name],
-    number: usize,
-    objects: &mut List<LoadedObject>,
-) -> Result<(), Stop>
-    requires listed { AreSearched dirs.now names.now }
-    requires few { length objects.old ≤ most_objects }
-    requires within { number < length objects.old }
-    ensures answer { IsStepAnswer (T.told tree.old) (T.faults tree.old) (T.faults tree.new) (λ world. asked_by world dirs.now names.now objects.old (slice_get objects.old number)) (leaving objects.new result) }
-    ensures few { length objects.new ≤ most_objects }
-    ensures grown { length objects.old ≤ length objects.new }
-    ensures never_falls { T.faults tree.old ≤ T.faults tree.new }
-    ensures world_stays { T.told tree.new ≡ T.told tree.old }
-{
-    let object = &objects.as_slice()[number];
-    let asker = copy_path(alloc, &object.path)?;
-    let needs = copied_names(alloc, object.needs.as_slice())?;
-    ask_all(alloc, tree, dirs, names, &asker, needs.as_slice(), objects)
-}
-
-fn ask_all<T: Tree>(
-    alloc: Global,
-    tree: &mut T,
-    dirs: &[Abs],
-    names: &[Name],
-    asker: &Abs,
-    needs: &[Name],
-    objects: &mut List<LoadedObject>,
-) -> Result<(), Stop>
-    requires listed { AreSearched dirs.now names.now }
-    requires few { length objects.old ≤ most_objects }
-    ensures answer { IsStepAnswer (T.told tree.old) (T.faults tree.old) (T.faults tree.new) (λ world. asked_all world dirs.now names.now asker.now objects.old needs.now) (leaving objects.new result) }
-    ensures few { length objects.new ≤ most_objects }
-    ensures grown { length objects.old ≤ length objects.new }
-    ensures never_falls { T.faults tree.old ≤ T.faults tree.new }
-    ensures world_stays { T.told tree.new ≡ T.told tree.old }
-{
-    for need in needs {
-        ask(alloc, tree, dirs, names, asker, need, objects)?;
-    }
-    Ok(())
-}
-
-/// Asks for a name: an object of this name is loaded, or the file for the name is loaded now.
-fn ask<T: Tree>(
-    alloc: Global,
-    tree: &mut T,
-    dirs: &[Abs],
-    names: &[Name],
-    asker: &Abs,
-    need: &Name,
-    objects: &mut List<LoadedObject>,
-) -> Result<(), Stop>
-    requires listed { AreSearched dirs.now names.now }
-    requires few { length objects.old ≤ most_objects }
-    ensures answer { IsStepAnswer (T.told tree.old) (T.faults tree.old) (T.faults tree.new) (λ world. asked world dirs.now names.now asker.now objects.old need.now) (leaving objects.new result) }
-    ensures few { length objects.new ≤ most_objects }
-    ensures grown { length objects.old ≤ length objects.new }
-    ensures never_falls { T.faults tree.old ≤ T.faults tree.new }
-    ensures world_stays { T.told tree.new ≡ T.told tree.old }
-{
-    if is_known(objects.as_slice(), need) {
-        return Ok(());
-    }
-    if !is_listed(names, need.as_bytes()) {
-        return Err(Stop::Refused(Refusal::NotBuilt));
-    }
-    let (file, face) = search(alloc, tree, dirs, need, asker)?;
-    bring(alloc, need, file, face, objects)
-}
-
-/// Puts a file at the end of the list. A file that the list has under another name, or one of another soname, is not
-/// built yet.
-fn bring(
-    alloc: Global,
-    name: &Name,
-    file: WorldFile,
-    face: ThinFace,
-    objects: &mut List<LoadedObject>,
-) -> Result<(), Stop>
-    requires few { length objects.old ≤ most_objects }
-    ensures answer { IsAnswer (brought objects.old name.now (file, face)) (leaving objects.new result) }
-    ensures few { length objects.new ≤ most_objects }
-    ensures grown { length objects.old ≤ length objects.new }
-{
-    let WorldFile { path, id, .. } = file;
-    if has_file(objects.as_slice(), &id)
-        || !may_be(name, &face)
-        || objects.as_slice().len() >= MOST_OBJECTS
-    {
-        return Err(Stop::Refused(Refusal::NotBuilt));
-    }
-    let soname = Some(Name::from_bytes(alloc, name.as_bytes())?);
-    objects.push(LoadedObject {
-        path,
-        id,
-        soname,
-        needs: face.needs,
-    })?;
-    Ok(())
-}
-
-/// Whether a name brought one of the objects.
-fn is_known(objects: &[LoadedObject], name: &Name) -> bool
-    ensures { result ≡ list_any (has_name name.now) objects.now }
-{
-    objects.iter().any(|object| has_name(object, name))
-}
-
-fn has_name(object: &LoadedObject, name: &Name) -> bool
-    ensures { result ≡ has_name name.now object.now }
-{
-    match &object.soname {
-        Some(soname) => soname.as_bytes() == name.as_bytes(),
-        None => false,
+    match Abs::read(alloc, text) {
+        Ok(dir) => Ok(dir),
+        Err(fault) => Err(only_memory(fault)),
     }
 }
 
-/// Whether one of the objects is the file of this identity.
-fn has_file(objects: &[LoadedObject], id: &Name) -> bool
-    ensures { result ≡ list_any (has_id id.now) objects.now }
+/// The one fault of a path that can be read.
+fn only_memory(fault: PathFault) -> NoMemory
+    requires { fault ≡ PathFault.NoMemory }
 {
-    objects
-        .iter()
-        .any(|object| object.id.as_bytes() == id.as_bytes())
-}
-
-/// Whether a file may be found by a name: its soname is no other.
-fn may_be(name: &Name, face: &ThinFace) -> bool
-    ensures { result ≡ may_be name.now face.now.soname }
-{
-    match &face.soname {
-        Some(soname) => soname.as_bytes() == name.as_bytes(),
-        None => true,
+    match fault {
+        PathFault::NoMemory => NoMemory,
+        _ => unreachable!(),
     }
 }

@@ -1,191 +1,127 @@
-ghost use Rattle.std.specs.Prelude.{◌≡◌, ◌≤◌, ◌<◌, IfOk, IfErr, OnOk, false, length, take, vec_len};
-ghost use Rattle.load_model.specs.World.{is_for, is_other};
-ghost use Rattle.ports.specs.Told.{WhereTold};
-ghost use Rattle.ports.specs.Reading.{bytes_at};
-ghost use Rattle.appdir_cli.specs.Opening.{EM_X86_64, HasFile, IsReadCause, not_read, opened_at, seen};
-ghost use Rattle.byte_view.specs.Checks.{flaw};
+//! The opener of a loader over the tree: it reads each file whole, keeps its face, and lets the bytes go.
 
-use crate::copies::copy_path;
-use crate::refusal::Refusal;
-use crate::stop::Stop;
-use crate::thin_faces::{ThinFace, ThinFault, Unread, thin_face};
-use byte_view::Flaw;
-use byte_view::constants::LONGEST_FILE;
-use byte_view::flaws::TOO_BIG;
-use load_model::{Name, Text, WorldFile};
-use path_text::{Abs, NoMemory};
+ghost use Rattle.std.specs.Prelude.{◌≡◌, ◌<◌, ◌^◌, ◌+◌, ◌∷◌, [], ◌++◌, IfOk, length, OnOk, OnErr};
+ghost use Rattle.load_model.specs.Opening.{AreFew, IsFew};
+ghost use Rattle.appdir_cli.specs.Keeping.{IsKept};
+
+use crate::answer::Stop;
+use crate::reading::{Seen, see};
+use byte_view::constants::EM_X86_64;
+use load_model::{Face, List, Name, NoMemory, OpenFault, Opened, Opener};
+use path_text::Abs;
 use ports::{Found, ProbeStop, Tree};
 use std::alloc::Global;
+use std::marker::Model;
 
-/// How many bytes are read at once.
-const WINDOW: usize = 65_536;
-
-/// What a loader finds at a path: nothing for it, a file that is refused, or an object.
+/// The faces that were read so far, each with symbols and asks that numbers of 32 bits count, as they do the faces.
 #[derive(Drop)]
-pub enum Opened {
-    Passed,
-    Refused(Refusal),
-    Object(WorldFile, ThinFace),
+pub struct FaceTable {
+    faces: List<Face>,
 }
 
-/// Reads the file at a path as a loader sees it.
-pub fn open<T: Tree>(alloc: Global, tree: &mut T, path: &Abs) -> Result<Opened, Stop>
-    ensures opened { IfOk result (λ found. WhereTold (T.told tree.old) (λ world. found ≡ opened_at world path.now)) }
-    ensures cause { IfErr result (λ stop. IsReadCause (T.faults tree.old) (T.faults tree.new) stop) }
-    ensures never_falls { T.faults tree.old ≤ T.faults tree.new }
-    ensures world_stays { T.told tree.new ≡ T.told tree.old }
-{
-    match tree.probe(alloc, path) {
-        Ok(Found::Absent) => Ok(Opened::Passed),
-        Ok(Found::File { id, len }) => open_file(alloc, tree, path, id, len),
-        Err(ProbeStop::Failed) => Err(Stop::Read),
-        Err(ProbeStop::NoMemory) => Err(Stop::NoMemory),
-    }
+impl Model for FaceTable {
+    ghost use Rattle.std.specs.Prelude.{List as Sequence};
+    ghost use Rattle.load_model.specs.declared.faces.Face.{Face};
+    ghost use Rattle.load_model.specs.Opening.{AreFew};
+
+    ghost Value = { Sequence Face };
+
+    ghost view = { λ table. table.faces };
+
+    ghost invariant = { λ table. AreFew table.faces };
 }
 
-fn open_file<T: Tree>(
-    alloc: Global,
-    tree: &mut T,
-    path: &Abs,
-    id: Name,
-    len: u64,
-) -> Result<Opened, Stop>
-    requires { WhereTold (T.told tree.old) (λ world. HasFile world path.now id len) }
-    ensures opened { IfOk result (λ found. WhereTold (T.told tree.old) (λ world. found ≡ opened_at world path.now)) }
-    ensures cause { IfErr result (λ stop. IsReadCause (T.faults tree.old) (T.faults tree.new) stop) }
-    ensures never_falls { T.faults tree.old ≤ T.faults tree.new }
-    ensures world_stays { T.told tree.new ≡ T.told tree.old }
-{
-    let mut window = vec![in alloc; 0; WINDOW]?;
-    let front = read_front(alloc, tree, path, len.min(20), window.as_mut_slice())?;
-    if is_for_another(front.as_slice()) {
-        return Ok(Opened::Passed);
-    }
-    open_object(alloc, tree, path, id, len, window.as_mut_slice())
-}
-
-/// Reads a file that is not one for another machine.
-fn open_object<T: Tree>(
-    alloc: Global,
-    tree: &mut T,
-    path: &Abs,
-    id: Name,
-    len: u64,
-    window: &mut [u8],
-) -> Result<Opened, Stop>
-    requires room { 0 < length window.old }
-    requires file { WhereTold (T.told tree.old) (λ world. HasFile world path.now id len) }
-    requires right { WhereTold (T.told tree.old) (λ world. is_other EM_X86_64 (bytes_at world path.now) ≡ false) }
-    ensures opened { IfOk result (λ found. WhereTold (T.told tree.old) (λ world. found ≡ opened_at world path.now)) }
-    ensures cause { IfErr result (λ stop. IsReadCause (T.faults tree.old) (T.faults tree.new) stop) }
-    ensures never_falls { T.faults tree.old ≤ T.faults tree.new }
-    ensures world_stays { T.told tree.new ≡ T.told tree.old }
-{
-    if len > LONGEST_FILE {
-        return Ok(Opened::Refused(too_big(alloc, path, len)?));
-    }
-    let bytes = read_front(alloc, tree, path, len, window)?;
-    see(alloc, path, id, bytes)
-}
-
-/// Why a file of this length is not read.
-fn too_big(alloc: Global, path: &Abs, len: u64) -> Result<Refusal, NoMemory>
-    ensures { IfOk result (λ refusal. refusal ≡ Refusal.Damaged path.now (flaw TOO_BIG len 0)) }
-{
-    let flaw = Flaw {
-        code: TOO_BIG,
-        a: len,
-        b: 0,
-    };
-    Ok(Refusal::Damaged(copy_path(alloc, path)?, flaw))
-}
-
-/// Why a file without a thin face is refused.
-fn not_read(alloc: Global, path: &Abs, reason: Unread) -> Result<Refusal, NoMemory>
-    ensures { IfOk result (λ refusal. refusal ≡ not_read path.now reason) }
-{
-    match reason {
-        Unread::Flawed(flaw) => Ok(Refusal::Damaged(copy_path(alloc, path)?, flaw)),
-        Unread::HasRunPath => Ok(Refusal::NotBuilt),
-    }
-}
-
-/// The first `len` bytes of the file at a path.
-fn read_front<T: Tree>(
-    alloc: Global,
-    tree: &mut T,
-    path: &Abs,
-    len: u64,
-    window: &mut [u8],
-) -> Result<Vec<u8>, Stop>
-    requires room { 0 < length window.old }
-    requires within { WhereTold (T.told tree.old) (λ world. len ≤ length (bytes_at world path.now)) }
-    ensures bytes { IfOk result (λ bytes. WhereTold (T.told tree.old) (λ world. bytes.items ≡ take len (bytes_at world path.now))) }
-    ensures cause { IfErr result (λ stop. IsReadCause (T.faults tree.old) (T.faults tree.new) stop) }
-    ensures never_falls { T.faults tree.old ≤ T.faults tree.new }
-    ensures world_stays { T.told tree.new ≡ T.told tree.old }
-{
-    let mut bytes = Vec::with_capacity(alloc, len as usize)?;
-    'fill: while (bytes.len() as u64) < len {
-        read_more(tree, path, len, &mut bytes, window)?;
-    }
-    Ok(bytes)
-}
-
-/// Reads at least one more byte of the first `len` bytes of the file at a path.
-fn read_more<T: Tree>(
-    tree: &mut T,
-    path: &Abs,
-    len: u64,
-    bytes: &mut Vec<u8>,
-    window: &mut [u8],
-) -> Result<(), Stop>
-    requires room { 0 < length window.old }
-    requires more { vec_len bytes.old < len }
-    requires within { WhereTold (T.told tree.old) (λ world. len ≤ length (bytes_at world path.now)) }
-    requires front { WhereTold (T.told tree.old) (λ world. bytes.old.items ≡ take (vec_len bytes.old) (bytes_at world path.now)) }
-    ensures grown { OnOk result (vec_len bytes.old < vec_len bytes.new) }
-    ensures at_most { OnOk result (vec_len bytes.new ≤ len) }
-    ensures front { OnOk result (WhereTold (T.told tree.old) (λ world. bytes.new.items ≡ take (vec_len bytes.new) (bytes_at world path.now))) }
-    ensures cause { IfErr result (λ stop. IsReadCause (T.faults tree.old) (T.faults tree.new) stop) }
-    ensures never_falls { T.faults tree.old ≤ T.faults tree.new }
-    ensures world_stays { T.told tree.new ≡ T.told tree.old }
-{
-    let at = bytes.len();
-    let count = match tree.read_at(path, at as u64, window) {
-        Ok(count) => count,
-        Err(_) => return Err(Stop::Read),
-    };
-    let wanted = count.min(len as usize - at);
-    bytes.extend_from_slice(&window[..wanted])?;
-    Ok(())
-}
-
-/// Whether the first bytes of a file are those of an object of another class, data order or machine.
-fn is_for_another(front: &[u8]) -> bool
-    ensures { result ≡ is_other EM_X86_64 front.now }
-{
-    front.len() >= 20 && front.starts_with(b"\x7fELF") && !is_for_machine(front)
-}
-
-fn is_for_machine(front: &[u8]) -> bool
-    requires { 20 ≤ length front.now }
-    ensures { result ≡ is_for EM_X86_64 front.now }
-{
-    front[4] == 2 && front[5] == 1 && u32::from(front[18]) + 256 * u32::from(front[19]) == 62
-}
-
-fn see(alloc: Global, path: &Abs, id: Name, bytes: Vec<u8>) -> Result<Opened, Stop>
-    ensures seen { IfOk result (λ found. found ≡ seen path.now id bytes.items) }
-    ensures memory { IfErr result (λ stop. stop ≡ Stop.NoMemory) }
-{
-    match thin_face(alloc, bytes.as_slice()) {
-        Ok(face) => {
-            let path = copy_path(alloc, path)?;
-            let bytes = Text::from_vec(bytes);
-            Ok(Opened::Object(WorldFile { path, id, bytes }, face))
+impl FaceTable {
+    /// No faces yet.
+    pub fn new(alloc: Global) -> FaceTable
+        ensures { result ≡ [] }
+    {
+        FaceTable {
+            faces: List::new(alloc),
         }
-        Err(ThinFault::Unread(reason)) => Ok(Opened::Refused(not_read(alloc, path, reason)?)),
-        Err(ThinFault::NoMemory) => Err(Stop::NoMemory),
+    }
+
+    /// The faces.
+    pub fn as_slice(&self) -> &[Face]
+        ensures faces { result.now ≡ self.now }
+        ensures few { AreFew self.now }
+    {
+        self.faces.as_slice()
+    }
+
+    /// Gives all faces away.
+    pub fn take(&mut self, alloc: Global) -> FaceTable
+        ensures faces { result ≡ self.old }
+        ensures none { self.new ≡ [] }
+    {
+        std::mem::replace(self, FaceTable::new(alloc))
+    }
+
+    /// Adds a face, and gives its place. A table that is full is want of memory.
+    pub fn add(&mut self, face: Face) -> Result<u32, NoMemory>
+        requires { IsFew face }
+        ensures place { IfOk result (λ place. place ≡ length self.old) }
+        ensures ok { OnOk result (self.new ≡ self.old ++ face ∷ []) }
+        ensures err { OnErr result (self.new ≡ self.old) }
+    {
+        let place = self.faces.as_slice().len();
+        if place as u64 + 1 >= 1 << 32 {
+            return Err(NoMemory);
+        }
+        self.faces.push(face)?;
+        Ok(place as u32)
+    }
+}
+
+/// An opener over a tree, for programs of x86-64.
+#[derive(Drop)]
+pub struct FileOpener<'a, T: Tree> {
+    pub tree: &'a mut T,
+    pub table: FaceTable,
+}
+
+impl<T: Tree> Opener for FileOpener<'_, T> {
+    ghost use Rattle.byte_view.specs.declared.constants.TheConstants.{EM_X86_64};
+
+    ghost seen = { λ opener. record {
+      loan = opener.tree.ghost_name;
+      told = (T.seen opener.tree.now).told;
+      machine = EM_X86_64;
+      faces = opener.table;
+      faults = (T.seen opener.tree.now).faults;
+    } };
+
+    fn open(&mut self, alloc: Global, path: &Abs) -> Result<Opened, OpenFault> {
+        let (id, len) = match self.tree.probe(alloc, path) {
+            Ok(Found::Absent) => return Ok(Opened::Absent),
+            Ok(Found::File { id, len }) => (id, len),
+            Err(ProbeStop::Failed) => return Err(OpenFault::Read),
+            Err(ProbeStop::NoMemory) => return Err(OpenFault::NoMemory),
+        };
+        match see(alloc, &mut *self.tree, path, len) {
+            Ok(Seen::ForAnother) => Ok(Opened::Other),
+            Ok(Seen::Faced(face)) => keep(&mut self.table, id, face),
+            Ok(Seen::Flawed(flaw)) => match path.copy(alloc) {
+                Ok(path) => Err(OpenFault::Damaged { path, flaw }),
+                Err(_) => Err(OpenFault::NoMemory),
+            },
+            Err(Stop::Read) => Err(OpenFault::Read),
+            Err(_) => Err(OpenFault::NoMemory),
+        }
+    }
+
+    fn faces(&self) -> &[Face] {
+        self.table.as_slice()
+    }
+}
+
+/// Keeps the face of an object with this identity.
+fn keep(table: &mut FaceTable, id: Name, face: Face) -> Result<Opened, OpenFault>
+    requires { IsFew face }
+    ensures kept { IsKept table.old table.new id face result }
+{
+    match table.add(face) {
+        Ok(face) => Ok(Opened::Object { id, face }),
+        Err(_) => Err(OpenFault::NoMemory),
     }
 }

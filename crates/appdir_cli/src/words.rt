@@ -1,7 +1,7 @@
-ghost use Rattle.std.specs.Prelude.{◌≡◌, [], ◌∷◌, ◌++◌, IfOk, IfSome, MatchOption, OnOk, string_bytes};
+ghost use Rattle.std.specs.Prelude.{◌≡◌, [], ◌∷◌, ◌++◌, IfOk, MatchOption, OnOk, string_bytes};
 ghost use Rattle.std.specs.List.{list_all, list_any};
 ghost use Rattle.path_text.specs.FileName.{is_file_name_text};
-ghost use Rattle.appdir_cli.specs.Words.{AreTexts, command_of, default_names_list, is_unshaped, names_of, packed, path_in, quick_of, shape_of, texts};
+ghost use Rattle.appdir_cli.specs.Words.{command_of, default_names_list, is_unshaped, names_of, path_in, quick_of, quick_with, shape_of, texts};
 
 use load_model::{List, Name};
 use path_text::{Abs, NoMemory, PathFault, is_file_name};
@@ -16,10 +16,15 @@ pub struct Quick {
     pub names: List<Name>,
 }
 
+/// What the words ask for.
+#[derive(Drop)]
+pub enum Command {
+    Quick(Quick),
+}
+
 /// The command that the words have the shape of, or none.
-pub fn read_words(alloc: Global, words: &[String]) -> Result<Option<Quick>, NoMemory>
-    ensures command { IfOk result (λ command. command ≡ command_of (texts words.now)) }
-    ensures utf8 { IfOk result (λ command. IfSome command (λ quick. AreTexts quick.names)) }
+pub fn read_words(alloc: Global, words: &[String]) -> Result<Option<Command>, NoMemory>
+    ensures { IfOk result (λ command. command ≡ command_of (texts words.now)) }
 {
     if any_unshaped(words) {
         return Ok(None);
@@ -62,20 +67,20 @@ fn split_word(words: &[String]) -> Option<(&[u8], &[String])>
     }
 }
 
-fn read_shape(alloc: Global, verb: &[u8], words: &[String]) -> Result<Option<Quick>, NoMemory>
-    ensures command { IfOk result (λ command. command ≡ shape_of (verb.now ∷ texts words.now)) }
-    ensures utf8 { IfOk result (λ command. IfSome command (λ quick. AreTexts quick.names)) }
+fn read_shape(alloc: Global, verb: &[u8], words: &[String]) -> Result<Option<Command>, NoMemory>
+    ensures { IfOk result (λ command. command ≡ shape_of (verb.now ∷ texts words.now)) }
 {
-    if verb == b"quick".as_slice() {
-        read_quick(alloc, words)
-    } else {
-        Ok(None)
+    if verb != b"quick".as_slice() {
+        return Ok(None);
+    }
+    match read_quick(alloc, words)? {
+        Some(quick) => Ok(Some(Command::Quick(quick))),
+        None => Ok(None),
     }
 }
 
 fn read_quick(alloc: Global, words: &[String]) -> Result<Option<Quick>, NoMemory>
-    ensures command { IfOk result (λ command. command ≡ quick_of (texts words.now)) }
-    ensures utf8 { IfOk result (λ command. IfSome command (λ quick. AreTexts quick.names)) }
+    ensures { IfOk result (λ command. command ≡ quick_of (texts words.now)) }
 {
     let Some((program, words)) = split_word(words) else {
         return Ok(None);
@@ -94,8 +99,7 @@ fn pack_words(
     out: Option<Abs>,
     names: &[String],
 ) -> Result<Option<Quick>, NoMemory>
-    ensures command { IfOk result (λ command. command ≡ packed program out (texts names.now)) }
-    ensures utf8 { IfOk result (λ command. IfSome command (λ quick. AreTexts quick.names)) }
+    ensures { IfOk result (λ command. command ≡ quick_with program out (texts names.now)) }
 {
     let (Some(program), Some(out)) = (program, out) else {
         return Ok(None);
@@ -134,8 +138,7 @@ fn read_path(alloc: Global, text: &[u8]) -> Result<Option<Abs>, NoMemory>
 }
 
 fn read_names(alloc: Global, words: &[String]) -> Result<List<Name>, NoMemory>
-    ensures names { IfOk result (λ names. names ≡ names_of (texts words.now)) }
-    ensures utf8 { IfOk result (λ names. AreTexts names) }
+    ensures { IfOk result (λ names. names ≡ names_of (texts words.now)) }
 {
     if words.is_empty() {
         default_names(alloc)
@@ -145,8 +148,7 @@ fn read_names(alloc: Global, words: &[String]) -> Result<List<Name>, NoMemory>
 }
 
 fn copied_names(alloc: Global, words: &[String]) -> Result<List<Name>, NoMemory>
-    ensures names { IfOk result (λ names. names ≡ texts words.now) }
-    ensures utf8 { IfOk result (λ names. AreTexts names) }
+    ensures { IfOk result (λ names. names ≡ texts words.now) }
 {
     let mut names = no_names(alloc);
     for word in words {
@@ -157,8 +159,7 @@ fn copied_names(alloc: Global, words: &[String]) -> Result<List<Name>, NoMemory>
 
 /// The libraries that every host is expected to have, where the words name none.
 fn default_names(alloc: Global) -> Result<List<Name>, NoMemory>
-    ensures names { IfOk result (λ names. names ≡ default_names_list) }
-    ensures utf8 { IfOk result (λ names. AreTexts names) }
+    ensures { IfOk result (λ names. names ≡ default_names_list) }
 {
     let mut names = no_names(alloc);
     push_text(alloc, &mut names, "ld-linux-x86-64.so.2")?;
@@ -174,9 +175,7 @@ fn default_names(alloc: Global) -> Result<List<Name>, NoMemory>
 
 /// Adds a text at the end of names that are all texts.
 fn push_text(alloc: Global, names: &mut List<Name>, text: &str) -> Result<(), NoMemory>
-    requires { AreTexts names.old }
-    ensures pushed { OnOk result (names.new ≡ names.old ++ text.now ∷ []) }
-    ensures utf8 { OnOk result (AreTexts names.new) }
+    ensures { OnOk result (names.new ≡ names.old ++ text.now ∷ []) }
 {
     let name = Name::from_bytes(alloc, text.as_bytes())?;
     names.push(name)?;
@@ -184,8 +183,7 @@ fn push_text(alloc: Global, names: &mut List<Name>, text: &str) -> Result<(), No
 }
 
 fn no_names(alloc: Global) -> List<Name>
-    ensures names { result ≡ [] }
-    ensures utf8 { AreTexts result }
+    ensures { result ≡ [] }
 {
     List::new(alloc)
 }

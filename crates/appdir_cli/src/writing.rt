@@ -1,17 +1,17 @@
-ghost use Rattle.std.specs.Prelude.{ℕ, ◌≡◌, ◌<◌, [], ◌∷◌, length, take, IsNone, OnErr, OnOk};
-ghost use Rattle.ports.specs.Faults.{HasCause};
-ghost use Rattle.ports.specs.Told.{WhereTold};
-ghost use Rattle.appdir_cli.specs.Endings.{Gained};
+//! Writing files into an opened folder, in order.
+
+ghost use Rattle.std.specs.Prelude.{ℕ, ◌≡◌, ◌<◌, ◌≤◌, ◌∷◌, [], length, take, OnErr, OnOk};
+ghost use Rattle.ports.specs.Folder.{Added, IsClosed, with_files};
+ghost use Rattle.ports.specs.View.{Became, Changed, HasCause};
 
 use ports::{Failed, MemFile, OutDir};
 
-/// Writes the files in order. After a failure a part of them is finished that is not all.
+/// Writes the files in order. After a failure a front part of them is finished that is not all.
 pub fn write_items<O: OutDir>(out: &mut O, items: &[MemFile]) -> Result<(), Failed>
-    requires { WhereTold (O.pending out.old) IsNone }
-    ensures all { OnOk result (Gained items.now (O.finished out.old) (O.finished out.new)) }
-    ensures part { OnErr result ((count : ℕ) × (count < length items.now) × Gained (take count items.now) (O.finished out.old) (O.finished out.new)) }
-    ensures roots_stay { O.roots out.new ≡ O.roots out.old }
-    ensures cause { HasCause (O.faults out.old) (O.faults out.new) result }
+    requires { IsClosed (O.seen out.old) }
+    ensures all { OnOk result (Became (with_files items.now) (O.seen out.old) (O.seen out.new)) }
+    ensures part { OnErr result ((count : ℕ) × (count < length items.now) × Changed (Added (take count items.now)) (O.seen out.old) (O.seen out.new)) }
+    ensures cause { HasCause (O.seen out.old) (O.seen out.new) result }
 {
     for item in items {
         write_item(out, item)?;
@@ -20,12 +20,11 @@ pub fn write_items<O: OutDir>(out: &mut O, items: &[MemFile]) -> Result<(), Fail
 }
 
 fn write_item<O: OutDir>(out: &mut O, item: &MemFile) -> Result<(), Failed>
-    requires { WhereTold (O.pending out.old) IsNone }
-    ensures written { OnOk result (Gained (item.now ∷ []) (O.finished out.old) (O.finished out.new)) }
-    ensures closed { OnOk result (WhereTold (O.pending out.new) IsNone) }
-    ensures finished_stay { OnErr result (O.finished out.new ≡ O.finished out.old) }
-    ensures roots_stay { O.roots out.new ≡ O.roots out.old }
-    ensures cause { HasCause (O.faults out.old) (O.faults out.new) result }
+    requires { IsClosed (O.seen out.old) }
+    ensures written { OnOk result (Became (with_files (item.now ∷ [])) (O.seen out.old) (O.seen out.new)) }
+    ensures closed { OnOk result (IsClosed (O.seen out.new)) }
+    ensures cut { OnErr result (Changed (Added []) (O.seen out.old) (O.seen out.new)) }
+    ensures cause { HasCause (O.seen out.old) (O.seen out.new) result }
 {
     out.begin(&item.path, item.executable)?;
     out.append(item.bytes.as_bytes())?;

@@ -1,4 +1,6 @@
+use Rattle.std.proofs.Common.{◌≤◌, arith}
+use Rattle.appdir_cli.proofs.FolderLemmas.{nothing_written}
 use Rattle.appdir_cli.proofs.writing.write_items.Goals as goal
 
-pub write_item-requires : goal.write_item-requires
-write_item-requires g c = c.loop-item.invariant.closed
+pub loop-item-init : goal.loop-item-init
+loop-item-init g c = record { closed = c.requires; files = nothing_written (g.O.OutDir.seen c.args.out.now) c.requires; faults = omega arith }

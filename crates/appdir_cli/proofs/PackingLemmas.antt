@@ -1,0 +1,74 @@
+-- What packing a program comes to, from its steps; and it is one of its outcomes alone.
+use Rattle.std.proofs.Common.{ℕ, ◌-◌, List, [], ◌≡◌, inl, sym, ap, subst, ◌∙◌, arith, length, Bool, true, false, Option, Some, None, Result, Ok, Err}
+use Rattle.answers.specs.Faults.{Rose}
+use Rattle.answers.specs.Told.{WhereTold}
+use Rattle.load_model.proofs.LoadLists.{at_most_one, list_or_stop}
+use Rattle.load_model.specs.Faces.{face_or_flaw}
+use Rattle.load_model.specs.Loads.{program_at, program_by}
+use Rattle.load_model.specs.World.{World, file_at}
+use Rattle.load_model.specs.declared.refusals.LoadRefusal.TheVariants.{NoProgram}
+use Rattle.ports.specs.View.{OnlyReads, View}
+use Rattle.appdir_cli.proofs.FittingLemmas.{listed_in_run}
+use Rattle.appdir_cli.proofs.OpeningLemmas.{kind_absent}
+use Rattle.appdir_cli.specs.Fitting.{is_all_listed, run_is_all_listed}
+use Rattle.appdir_cli.specs.Packing.{HasBytes, HasList, IsPackage, IsUnlisted, LoadsAs, Packs, default_setting, package_with}
+use Rattle.appdir_cli.specs.Steps.{IsStepAnswer}
+use Rattle.appdir_cli.specs.declared.answer.Answer.{Answer}
+use Rattle.appdir_cli.specs.declared.answer.Stop.{Stop}
+use Rattle.appdir_cli.specs.declared.answer.Stop.TheVariants.{Refused, Read, NoMemory}
+use Rattle.appdir_cli.specs.declared.answer.Whole.{Whole}
+use Rattle.appdir_cli.specs.declared.loading.LoadedProgram.{LoadedProgram}
+use Rattle.appdir_cli.specs.declared.refusal.Refusal.{Refusal}
+use Rattle.appdir_cli.specs.declared.refusal.Refusal.TheVariants.{Load, NotBuilt, NotEmpty}
+use Rattle.appdir_cli.specs.declared.words.Quick.{Quick}
+
+pub packed_or_refused : (world : World) (command : Quick) (whole : Whole) (refusal : Refusal) → IsPackage world command whole → Packs world command (Err refusal) → ⊥
+packed_or_refused world command whole (Load refusal) packed refused =
+    list_or_stop face_or_flaw default_setting world command.program [] packed.loads.loaded packed.loads.ends refusal packed.loads.list refused
+packed_or_refused world command whole NotBuilt packed refused =
+    let same = at_most_one face_or_flaw default_setting world command.program [] packed.loads.loaded refused.loads.loaded packed.loads.ends refused.loads.ends packed.loads.list refused.loads.list in
+    let listed : is_all_listed command.names refused.loads.loaded ≡ true = ap (is_all_listed command.names) (sym same.0) ∙ packed.listed in
+    let unlisted : is_all_listed command.names refused.loads.loaded ≡ false = refused.unlisted in
+    cc
+packed_or_refused world command whole (NotEmpty place) packed refused = refused
+
+-- a program that is not loaded ends the command
+pub load_stops : (before after : View World) (command : Quick) (stop : Stop) → IsStepAnswer {A = LoadedProgram} before after (λ world outcome. LoadsAs world command.program outcome) (Err stop) → IsStepAnswer {A = Answer} before after (λ world outcome. Packs world command outcome) (Err stop)
+load_stops before after command (Refused (Load refusal)) h = h
+load_stops before after command (Refused NotBuilt) h = λ world told. absurd (h world told)
+load_stops before after command (Refused (NotEmpty place)) h = h
+load_stops before after command Read h = h
+load_stops before after command NoMemory h = h
+
+abbrev has_list : (world : World) (command : Quick) (loaded : LoadedProgram) → LoadsAs world command.program (Ok loaded) → HasList world command.program
+has_list world command loaded loads = record { loaded = loads.loaded; ends = loads.ends; list = loads.list }
+
+-- a list that is not all on the list of names
+pub unlisted : (world : World) (command : Quick) (loaded : LoadedProgram) → LoadsAs world command.program (Ok loaded) → run_is_all_listed command.names loaded.faces loaded.run ≡ false → IsUnlisted world command
+unlisted world command loaded loads h = record {
+  loads = has_list world command loaded loads;
+  unlisted = sym (listed_in_run command.names loaded.faces loads.loaded loads.ends loaded.run loads.run_is) ∙ h;
+}
+
+-- a list that is, with the bytes of the program
+pub packaged : (world : World) (command : Quick) (loaded : LoadedProgram) (bytes : List ℕ) (whole : Whole) → LoadsAs world command.program (Ok loaded) → run_is_all_listed command.names loaded.faces loaded.run ≡ true → HasBytes world command.program (Ok bytes) → whole ≡ package_with command bytes (length loaded.run.objs - 1) → IsPackage world command whole
+packaged world command loaded bytes whole loads h has is = record {
+  loads = has_list world command loaded loads;
+  listed = sym (listed_in_run command.names loaded.faces loads.loaded loads.ends loaded.run loads.run_is) ∙ h;
+  file = has.0;
+  lies = has.1;
+  whole_is = is ∙ ap (λ b. package_with command b (length loaded.run.objs - 1)) has.2 ∙ ap (λ n. package_with command has.0.bytes (n - 1)) loads.run_is.count;
+}
+
+not_there : (world : World) (path : List ℕ) → file_at world path ≡ None → program_at face_or_flaw default_setting world path ≡ Err (NoProgram path)
+unfolding program_at
+not_there world path h = ap (program_by face_or_flaw default_setting world path) (kind_absent world path h)
+
+gone : (world : World) (command : Quick) (refusal : Refusal) → HasBytes world command.program (Err refusal) → Packs world command (Err refusal)
+gone world command refusal h = subst (λ (r : Refusal). Packs world command (Err r)) (sym h.0) (inl (not_there world command.program h.1))
+
+-- a program that is not read ends the command
+pub bytes_stop : (before middle after : View World) (command : Quick) (stop : Stop) → OnlyReads before middle → IsStepAnswer {A = List ℕ} middle after (λ world outcome. HasBytes world command.program outcome) (Err stop) → IsStepAnswer {A = Answer} before after (λ world outcome. Packs world command outcome) (Err stop)
+bytes_stop before middle after command (Refused refusal) reads h = λ world told. gone world command refusal (h world (reads.stays ∙ told))
+bytes_stop before middle after command Read reads h = omega (arith, reads.never_falls, h)
+bytes_stop before middle after command NoMemory reads h = h

@@ -1,0 +1,32 @@
+-- Why a program that is not loaded ends a command.
+use Rattle.load_model.specs.declared.opening.OpenFault.{OpenFault}
+use Rattle.load_model.specs.declared.opening.OpenFault.TheVariants.{Read as ReadFault, Damaged as DamagedFile, NoMemory as NoMemoryOpen}
+use Rattle.load_model.specs.declared.refusals.LoadRefusal.{LoadRefusal}
+use Rattle.load_model.specs.declared.refusals.LoadRefusal.TheVariants.{NoProgram, Damaged, RelativeNeed, TokenInNeed, RelativeItem, TokenUnset, MissingLibrary, TooManyObjects}
+use Rattle.load_order.specs.declared.stops.LoadStop.{LoadStop}
+use Rattle.load_order.specs.declared.stops.LoadStop.TheVariants.{NoProgram as StopNoProgram, MissingLibrary as StopMissing, RelativeNeed as StopRelativeNeed, TokenInNeed as StopTokenInNeed, TooManyObjects as StopTooMany, Search as StopSearch, NoMemory as NoMemoryLoad}
+use Rattle.search_paths.specs.declared.hits.SearchStop.{SearchStop}
+use Rattle.search_paths.specs.declared.hits.SearchStop.TheVariants.{RelativeItem as StopRelativeItem, TokenUnset as StopTokenUnset, Open, NoMemory as NoMemorySearch}
+use Rattle.appdir_cli.specs.declared.answer.Stop.{Stop}
+use Rattle.appdir_cli.specs.declared.answer.Stop.TheVariants.{Refused, Read, NoMemory}
+use Rattle.appdir_cli.specs.declared.refusal.Refusal.TheVariants.{Load}
+
+abbrev pub stop_of_open : OpenFault → Stop
+stop_of_open ReadFault = Read
+stop_of_open (DamagedFile path flaw) = Refused (Load (Damaged path flaw))
+stop_of_open NoMemoryOpen = NoMemory
+
+abbrev pub stop_of_search : SearchStop → Stop
+stop_of_search (StopRelativeItem item) = Refused (Load (RelativeItem item))
+stop_of_search (StopTokenUnset item) = Refused (Load (TokenUnset item))
+stop_of_search (Open fault) = stop_of_open fault
+stop_of_search NoMemorySearch = NoMemory
+
+abbrev pub stop_of_load : LoadStop → Stop
+stop_of_load (StopNoProgram path) = Refused (Load (NoProgram path))
+stop_of_load (StopMissing name by) = Refused (Load (MissingLibrary name by))
+stop_of_load (StopRelativeNeed name by) = Refused (Load (RelativeNeed name by))
+stop_of_load (StopTokenInNeed name by) = Refused (Load (TokenInNeed name by))
+stop_of_load (StopTooMany path) = Refused (Load (TooManyObjects path))
+stop_of_load (StopSearch stop) = stop_of_search stop
+stop_of_load NoMemoryLoad = NoMemory

@@ -1,0 +1,51 @@
+//! Doing what a command asks for: what it comes to, and then its text or its files. Definitions: `specs/ComesTo.antt` and
+//! `specs/Endings.antt`.
+
+ghost use Rattle.std.specs.Prelude.{◌≤◌};
+ghost use Rattle.appdir_cli.specs.ComesTo.{ComesTo};
+ghost use Rattle.appdir_cli.specs.Endings.{EndsFor, outside};
+ghost use Rattle.appdir_cli.specs.Steps.{IsStepAnswer};
+ghost use Rattle.ports.specs.View.{OnlyReads};
+
+use crate::answer::{Answer, Stop};
+use crate::delivering::deliver;
+use crate::packing::quick;
+use crate::saying::{refuse, say};
+use crate::status::Status;
+use crate::words::Command;
+use ports::{OutDir, Sink, Tree};
+use std::alloc::Global;
+
+/// What the command comes to.
+fn answer<T: Tree>(alloc: Global, tree: &mut T, command: &Command) -> Result<Answer, Stop>
+    ensures answer { IsStepAnswer (T.seen tree.old) (T.seen tree.new) (λ world outcome. ComesTo world command.now outcome) result }
+    ensures only_reads { OnlyReads (T.seen tree.old) (T.seen tree.new) }
+{
+    match command {
+        Command::Quick(command) => quick(alloc, tree, command),
+    }
+}
+
+/// Does what the command asks for.
+pub fn obey<T: Tree, O: OutDir, S: Sink>(
+    alloc: Global,
+    command: &Command,
+    tree: &mut T,
+    out: &mut O,
+    sink: &mut S,
+) -> Status
+    ensures ending { EndsFor command.now
+        (outside (T.seen tree.old) (O.seen out.old) (S.seen sink.old))
+        (outside (T.seen tree.new) (O.seen out.new) (S.seen sink.new)) result }
+    ensures only_reads { OnlyReads (T.seen tree.old) (T.seen tree.new) }
+    ensures folder_faults { (O.seen out.old).faults ≤ (O.seen out.new).faults }
+    ensures sink_faults { (S.seen sink.old).faults ≤ (S.seen sink.new).faults }
+{
+    match answer(alloc, tree, command) {
+        Ok(Answer::Says(text)) => say(sink, text.as_bytes(), Status::Done),
+        Ok(Answer::Packs(whole)) => deliver(alloc, &whole, out, sink),
+        Err(Stop::Refused(refusal)) => refuse(alloc, &refusal, sink),
+        Err(Stop::Read) => Status::ReadFailed,
+        Err(Stop::NoMemory) => Status::NoMemory,
+    }
+}

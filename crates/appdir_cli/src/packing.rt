@@ -1,0 +1,94 @@
+//! `quick`: packs a program whose whole load list is on the list of names. Definitions: `specs/Packing.antt`.
+
+ghost use Rattle.std.specs.Prelude.{◌≡◌, ◌-◌, IfOk, length};
+ghost use Rattle.ports.specs.View.{OnlyReads};
+ghost use Rattle.appdir_cli.specs.Packing.{HasBytes, Packs, app_run_of, package_with};
+ghost use Rattle.appdir_cli.specs.Steps.{IsStepAnswer};
+
+use crate::answer::{Answer, Stop, Whole};
+use crate::fitting::is_all_listed;
+use crate::loading::load_program;
+use crate::reading::read_whole;
+use crate::refusal::{Refusal, done_text};
+use crate::words::Quick;
+use load_model::{List, LoadRefusal, Text};
+use path_text::{Abs, NoMemory, Rel};
+use ports::{Found, MemFile, ProbeStop, Tree};
+use std::alloc::Global;
+
+/// `quick PROGRAM OUT [NAME ..]`: packs one program without a desktop entry.
+pub fn quick<T: Tree>(alloc: Global, tree: &mut T, command: &Quick) -> Result<Answer, Stop>
+    ensures answer { IsStepAnswer (T.seen tree.old) (T.seen tree.new) (λ world outcome. Packs world command.now outcome) result }
+    ensures only_reads { OnlyReads (T.seen tree.old) (T.seen tree.new) }
+{
+    let loaded = match load_program(alloc, tree, &command.program) {
+        Ok(loaded) => loaded,
+        Err(stop) => return Err(stop),
+    };
+    match is_all_listed(
+        alloc,
+        command.names.as_slice(),
+        loaded.faces.as_slice(),
+        &loaded.run,
+    ) {
+        Ok(true) => {}
+        Ok(false) => return Err(Stop::Refused(Refusal::NotBuilt)),
+        Err(_) => return Err(Stop::NoMemory),
+    }
+    let bytes = match read_program(alloc, tree, &command.program) {
+        Ok(bytes) => bytes,
+        Err(stop) => return Err(stop),
+    };
+    let count = loaded.run.objs.as_slice().len();
+    match package(alloc, command, bytes, count) {
+        Ok(whole) => Ok(Answer::Packs(whole)),
+        Err(_) => Err(Stop::NoMemory),
+    }
+}
+
+/// The bytes of the program.
+fn read_program<T: Tree>(alloc: Global, tree: &mut T, path: &Abs) -> Result<Text, Stop>
+    ensures answer { IsStepAnswer (T.seen tree.old) (T.seen tree.new) (λ world outcome. HasBytes world path.now outcome) result }
+    ensures only_reads { OnlyReads (T.seen tree.old) (T.seen tree.new) }
+{
+    match tree.probe(alloc, path) {
+        Ok(Found::File { len, .. }) => match read_whole(alloc, tree, path, len) {
+            Ok(bytes) => Ok(Text::from_vec(bytes)),
+            Err(stop) => Err(stop),
+        },
+        Ok(Found::Absent) => match path.copy(alloc) {
+            Ok(path) => Err(Stop::Refused(Refusal::Load(LoadRefusal::NoProgram(path)))),
+            Err(_) => Err(Stop::NoMemory),
+        },
+        Err(ProbeStop::Failed) => Err(Stop::Read),
+        Err(ProbeStop::NoMemory) => Err(Stop::NoMemory),
+    }
+}
+
+/// The AppDir of a program with these bytes, of which so many objects are loaded.
+fn package(alloc: Global, command: &Quick, bytes: Text, count: usize) -> Result<Whole, NoMemory>
+    ensures { IfOk result (λ whole. whole ≡ package_with command.now bytes (count - 1)) }
+{
+    let mut items = List::new(alloc);
+    items.push(app_run(alloc, bytes)?)?;
+    let hosts = if count > 0 { count - 1 } else { 0 };
+    Ok(Whole {
+        place: command.out.copy(alloc)?,
+        items,
+        line: done_text(alloc, 1, 0, hosts)?,
+    })
+}
+
+/// The copy of the program, which a host starts.
+fn app_run(alloc: Global, bytes: Text) -> Result<MemFile, NoMemory>
+    ensures { IfOk result (λ item. item ≡ app_run_of bytes) }
+{
+    match Rel::read(alloc, b"AppRun") {
+        Ok(path) => Ok(MemFile {
+            path,
+            executable: true,
+            bytes,
+        }),
+        Err(_) => Err(NoMemory),
+    }
+}
