@@ -205,5 +205,25 @@ else
     skip 'there is no /usr/bin/true to fail with'
 fi
 
+# A program whose RUNPATH leads to a library beside it, which needs one more beside itself by its own RUNPATH.
+app=$work/app
+mkdir -p "$app/lib"
+make_app() {
+    printf 'int deep(void) { return 42; }\n' | cc -shared -fPIC -Wl,-soname,libdeep.so.1 -x c -o "$app/lib/libdeep.so.1" - &&
+        printf 'int deep(void);\nint answer(void) { return deep(); }\n' >"$work/answer.c" &&
+        cc -shared -fPIC -Wl,-soname,libanswer.so.1 -Wl,--enable-new-dtags,-rpath,"\$ORIGIN" -o "$app/lib/libanswer.so.1" "$work/answer.c" "$app/lib/libdeep.so.1" &&
+        printf 'int answer(void);\nint main(void) { return answer() == 42 ? 0 : 1; }\n' >"$work/main.c" &&
+        cc -Wl,--enable-new-dtags,-rpath,"\$ORIGIN/lib" -Wl,-rpath-link,"$app/lib" -o "$app/main" "$work/main.c" "$app/lib/libanswer.so.1"
+}
+if make_app 2>/dev/null; then
+    refuses 'a program with a RUNPATH' 'refused 55: not built yet' quick "$app/main" "$work/out"
+    rm "$app/lib/libdeep.so.1"
+    refuses 'a missing library of a library' "refused 16: missing library libdeep.so.1 needed by $app/lib/libanswer.so.1" quick "$app/main" "$work/out"
+    rm "$app/lib/libanswer.so.1"
+    refuses 'a missing library' "refused 16: missing library libanswer.so.1 needed by $app/main" quick "$app/main" "$work/out"
+else
+    skip 'no program with libraries can be made here'
+fi
+
 echo "real programs: $packed packed, $passed checks passed, $failed failed, $skipped skipped"
 [ "$failed" = 0 ]
