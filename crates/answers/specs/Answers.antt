@@ -1,5 +1,5 @@
--- Answers of calls that may lack memory: an answer is the wanted one, or memory was refused. `named`
--- is what an error says, and None for want of memory, which may come always.
+-- Answers of calls that may lack memory: an answer is the wanted one, or memory was refused.
+-- `named` is what an error says, and None for want of memory, which may come always.
 use Rattle.std.specs.Prelude.{◌≡◌, Option, None, Some, Result, Ok, Err}
 
 -- What was named is what was found; want of memory names nothing.

@@ -32,7 +32,7 @@ use Rattle.appdir_cli.specs.Endings.{Ends, IsGiven, Outside}
 use Rattle.appdir_cli.specs.Fitting.{face_of_object, fits_as_object, fits_as_program, fits_need, has_key, has_listed_interpreter, is_all_listed, is_on_list}
 use Rattle.appdir_cli.specs.Packing.{IsPackage, Packs as IsPackedBy, default_setting}
 use Rattle.appdir_cli.specs.TwoWorlds.{IsPackable, IsPortable, RunsAlike, RunsOnHosts}
-use Rattle.appdir_cli.specs.Words.{command_of, default_names_list, is_unshaped, names_of, path_in, quick_of, quick_with, shape_of}
+use Rattle.appdir_cli.specs.Words.{command_of, default_names_list, is_unshaped, names_of, path_told, quick_of, quick_with, shape_of}
 use Rattle.appdir_cli.specs.declared.answer.Answer.{Answer}
 use Rattle.appdir_cli.specs.declared.answer.Answer.TheVariants.{Says, Packs}
 use Rattle.appdir_cli.specs.declared.answer.Whole.{Whole}
@@ -187,7 +187,7 @@ with_names None out names command h = cc
 quick_names : (words : List (List ℕ)) (command : Quick) → quick_of words ≡ Some command → All IsFileName command.names
 quick_names [] command h = cc
 quick_names (program ∷ []) command h = cc
-quick_names (program ∷ out ∷ names) command h = with_names (path_in program) (path_in out) names command h
+quick_names (program ∷ out ∷ names) command h = with_names (path_told program) (path_told out) names command h
 
 asked_names : (words : List (List ℕ)) (quick : Option Quick) (command : Quick) → quick_of words ≡ quick → option_map (λ q. AsksQuick q) quick ≡ Some (AsksQuick command) → All IsFileName command.names
 asked_names words None command e h = cc

@@ -1,4 +1,5 @@
--- What a command comes to in a world, one line for each command: a text that is said, files that are written, or a refusal.
+-- What a command comes to in a world, one line for each command: a text that is said, files that
+-- are written, or a refusal.
 use Rattle.std.specs.Prelude.{Result}
 use Rattle.load_model.specs.World.{World}
 use Rattle.appdir_cli.specs.Packing.{Packs as IsPackedBy}

@@ -30,11 +30,12 @@ outside tree folder sink = record { tree = tree; folder = folder; sink = sink }
 
 -- Where the tree tells its world, the command comes to this there.
 abbrev pub IsOutcome : Command → Outside → Result Answer Refusal → Type 0
-IsOutcome command before outcome = WhereTold before.tree.told (λ world. ComesTo world command outcome)
+IsOutcome command before outcome =
+    WhereTold before.tree.told (λ world. ComesTo world command outcome)
 
-abbrev pub text_of : Answer → List ℕ
-text_of (Says text) = text
-text_of (Packs whole) = whole.line
+abbrev pub answer_text : Answer → List ℕ
+answer_text (Says text) = text
+answer_text (Packs whole) = whole.line
 
 -- A text leaves the folder as it was, and files are whole in it.
 abbrev pub IsGiven : Answer → View Folder → View Folder → Type 0
@@ -45,7 +46,7 @@ IsGiven (Packs whole) before after = IsWhole whole before after
 pub record IsDone (command : Command) (before after : Outside) (text : List ℕ) : Type 0 where
   pub answer : Answer
   pub outcome : IsOutcome command before (Ok answer)
-  pub line : text ≡ text_of answer
+  pub line : text ≡ answer_text answer
   pub given : IsGiven answer before.folder after.folder
 
 -- The command comes to this refusal, and the folder is as it was.
@@ -90,10 +91,13 @@ IsEnded Ending before after = (text : List ℕ) × Ending text × Took text befo
 abbrev pub EndsFor : Command → Outside → Outside → Status → Type 0
 EndsFor command before after Done = IsEnded (IsDone command before after) before after
 EndsFor command before after Refused = IsEnded (IsRefused command before after) before after
-EndsFor command before after ReadFailed = Rose before.tree.faults after.tree.faults × IsUntouched before after
+EndsFor command before after ReadFailed =
+    Rose before.tree.faults after.tree.faults × IsUntouched before after
 EndsFor command before after WriteFailed = IsUnwritten command before after
 EndsFor command before after NoMemory = IsUntouched before after
-EndsFor command before after PrintFailed = IsUnsaid (IsDone command before after) before after ⊎ IsUnsaid (IsRefused command before after) before after
+EndsFor command before after PrintFailed =
+    IsUnsaid (IsDone command before after) before after
+    ⊎ IsUnsaid (IsRefused command before after) before after
 EndsFor command before after Usage = ⊥
 
 -- Words of no shape.
@@ -127,11 +131,15 @@ packing_status (_ ∷ _) = Refused
 -- The status that an outcome has.
 abbrev pub Expects : Result Answer Refusal → View Folder → Status → Type 0
 Expects (Ok (Says text)) folder status = status ≡ Done
-Expects (Ok (Packs whole)) folder status = WhereTold folder.told (λ held. status ≡ packing_status held.finished)
+Expects (Ok (Packs whole)) folder status =
+    WhereTold folder.told (λ held. status ≡ packing_status held.finished)
 Expects (Err refusal) folder status = status ≡ Refused
 
 -- A call without faults has the status of its outcome, or it lacked memory.
 abbrev pub IsComplete : Option Command → Outside → Outside → Status → Type 0
-IsComplete None before after status = IsFaultless before after → (status ≡ Usage) ⊎ (status ≡ NoMemory)
+IsComplete None before after status =
+    IsFaultless before after → (status ≡ Usage) ⊎ (status ≡ NoMemory)
 IsComplete (Some command) before after status =
-    (world : World) (outcome : Result Answer Refusal) → before.tree.told ≡ Some world → ComesTo world command outcome → IsFaultless before after → Expects outcome before.folder status ⊎ (status ≡ NoMemory)
+    (world : World) (outcome : Result Answer Refusal) → before.tree.told ≡ Some world
+    → ComesTo world command outcome → IsFaultless before after
+    → Expects outcome before.folder status ⊎ (status ≡ NoMemory)

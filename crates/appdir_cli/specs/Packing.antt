@@ -1,4 +1,5 @@
--- What `quick` comes to: the AppDir of a program whose whole load list is on the list of names, or the first refusal.
+-- What `quick` comes to: the AppDir of a program whose whole load list is on the list of names, or
+-- the first refusal.
 use Rattle.std.specs.Prelude.{ℕ, ◌-◌, ◌≡◌, List, [], ◌∷◌, Bool, true, false, Option, Some, None, Result, Ok, Err, codes, length}
 use Rattle.byte_view.specs.declared.constants.TheConstants.{EM_X86_64}
 use Rattle.load_model.specs.Faces.{face_or_flaw}
@@ -33,14 +34,17 @@ default_dirs =
     codes "/lib" ∷
     codes "/usr/lib" ∷ []
 
--- The loader's setting: programs of x86-64, the default directories, no text for the tokens LIB and PLATFORM.
+-- The loader's setting: programs of x86-64, the default directories, no text for the tokens LIB and
+-- PLATFORM.
 abbrev pub default_setting : Setting
 default_setting = record { machine = EM_X86_64; dirs = default_dirs; lib = None; platform = None }
 
 -- The program's load list over its faces, or why it has none.
 abbrev pub LoadsAs : World → List ℕ → Result LoadedProgram Refusal → Type 0
-LoadsAs world path (Ok loaded) = Loads face_or_flaw default_setting world loaded.faces path [] loaded.run
-LoadsAs world path (Err (Load refusal)) = IsStopped face_or_flaw default_setting world path [] refusal
+LoadsAs world path (Ok loaded) =
+    Loads face_or_flaw default_setting world loaded.faces path [] loaded.run
+LoadsAs world path (Err (Load refusal)) =
+    IsStopped face_or_flaw default_setting world path [] refusal
 LoadsAs world path (Err NotBuilt) = ⊥
 LoadsAs world path (Err (NotEmpty place)) = ⊥
 
@@ -56,11 +60,13 @@ app_run_of bytes = record { path = codes "AppRun"; executable = true; bytes = by
 
 -- The AppDir of the program: its copy, which needs so many host libraries.
 abbrev pub package_with : Quick → List ℕ → ℕ → Whole
-package_with command bytes hosts = record { place = command.out; items = app_run_of bytes ∷ []; line = done_line 1 0 hosts }
+package_with command bytes hosts =
+    record { place = command.out; items = app_run_of bytes ∷ []; line = done_line 1 0 hosts }
 
 -- The bytes of the program, or that there is none.
 abbrev pub HasBytes : World → List ℕ → Result (List ℕ) Refusal → Type 0
-HasBytes world path (Ok bytes) = (file : WorldFile) × (file_at world path ≡ Some file) × (bytes ≡ file.bytes)
+HasBytes world path (Ok bytes) =
+    (file : WorldFile) × (file_at world path ≡ Some file) × (bytes ≡ file.bytes)
 HasBytes world path (Err refusal) = (refusal ≡ Load (NoProgram path)) × (file_at world path ≡ None)
 
 -- The whole load list is on the list of names, and the AppDir is the program's copy.
@@ -79,6 +85,7 @@ pub record IsUnlisted (world : World) (command : Quick) : Type 0 where
 abbrev pub Packs : World → Quick → Result Answer Refusal → Type 0
 Packs world command (Ok (Says text)) = ⊥
 Packs world command (Ok (PacksFiles whole)) = IsPackage world command whole
-Packs world command (Err (Load refusal)) = IsStopped face_or_flaw default_setting world command.program [] refusal
+Packs world command (Err (Load refusal)) =
+    IsStopped face_or_flaw default_setting world command.program [] refusal
 Packs world command (Err NotBuilt) = IsUnlisted world command
 Packs world command (Err (NotEmpty place)) = ⊥

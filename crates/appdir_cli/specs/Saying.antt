@@ -25,4 +25,5 @@ IsSaid text status before after result =
 -- The same of the line of a refusal, or memory was refused before it.
 abbrev pub IsRefusal : Refusal → View (List ℕ) → View (List ℕ) → Status → Type 0
 IsRefusal refusal before after result =
-    (result ≡ NoMemory) × Stays before after ⊎ IsSaid (refusal_line refusal) Refused before after result
+    (result ≡ NoMemory) × Stays before after
+    ⊎ IsSaid (refusal_line refusal) Refused before after result

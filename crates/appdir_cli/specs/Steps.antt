@@ -8,9 +8,13 @@ use Rattle.appdir_cli.specs.declared.answer.Stop.{Stop}
 use Rattle.appdir_cli.specs.declared.answer.Stop.TheVariants.{Refused, Read, NoMemory}
 use Rattle.appdir_cli.specs.declared.refusal.Refusal.{Refusal}
 
--- A value or a refusal is one that the world allows; a read fails only where the count of faults rose; want of memory is free.
-abbrev pub IsStepAnswer : {A : Type 0} → View World → View World → (World → Result A Refusal → Type 0) → Result A Stop → Type 0
-IsStepAnswer before after Allows (Ok value) = WhereTold before.told (λ world. Allows world (Ok value))
-IsStepAnswer before after Allows (Err (Refused refusal)) = WhereTold before.told (λ world. Allows world (Err refusal))
+-- A value or a refusal is one that the world allows; a read fails only where the count of faults
+-- rose; want of memory is free.
+abbrev pub IsStepAnswer : {A : Type 0} → View World → View World
+    → (World → Result A Refusal → Type 0) → Result A Stop → Type 0
+IsStepAnswer before after Allows (Ok value) =
+    WhereTold before.told (λ world. Allows world (Ok value))
+IsStepAnswer before after Allows (Err (Refused refusal)) =
+    WhereTold before.told (λ world. Allows world (Err refusal))
 IsStepAnswer before after Allows (Err Read) = Rose before.faults after.faults
 IsStepAnswer before after Allows (Err NoMemory) = Unit {0}

@@ -18,15 +18,16 @@ use Rattle.appdir_cli.specs.declared.words.Command.TheVariants.{Quick as AsksQui
 use Rattle.appdir_cli.specs.declared.words.Quick.{Quick}
 
 -- A program that can be packed in a world, with its file and its load list there.
-pub record IsPackable (world : World) (command : Quick) (start : WorldFile) (loaded : Loaded) : Type 0 where
+pub record IsPackable (world : World) (command : Quick) (start : WorldFile) (loaded : Loaded) : Type
+    0 where
   pub lies : file_at world command.program ≡ Some start
   pub loads : HasList world command.program
   pub loaded_is : loads.loaded ≡ loaded
   pub listed : is_all_listed command.names loaded ≡ true
 
--- On every host that carries a copy of the program, named `AppRun`, in a place, and whose listed directories have an
--- object for each other object of the list, a loader of x86-64 loads the same (IsCarried has the premises, LoadsAlike
--- what follows).
+-- On every host that carries a copy of the program, named `AppRun`, in a place, and whose listed
+-- directories have an object for each other object of the list, a loader of x86-64 loads the same
+-- (IsCarried has the premises, LoadsAlike what follows).
 abbrev pub RunsOnHosts : WorldFile → Loaded → Type 0
 RunsOnHosts start loaded =
     (host : World) (setting : Setting) (place : List ℕ) (copy : WorldFile)
@@ -38,15 +39,19 @@ RunsOnHosts start loaded =
 unfoldable pub RunsAlike : Option Command → World → Type 0
 RunsAlike asked world =
     (command : Quick) (start : WorldFile) (loaded : Loaded)
-    → asked ≡ Some (AsksQuick command) → IsPackable world command start loaded → RunsOnHosts start loaded
+    → asked ≡ Some (AsksQuick command) → IsPackable world command start loaded
+    → RunsOnHosts start loaded
 
--- The files that the folder gained are the copy of the program alone, which can be packed in this world; and on every such
--- host it loads the same.
-pub record IsPortable (asked : Option Command) (world : World) (before after : View Folder) : Type 0 where
-  pub command : Quick
-  pub quick : asked ≡ Some (AsksQuick command)
-  pub start : WorldFile
-  pub loaded : Loaded
-  pub packable : IsPackable world command start loaded
-  pub files : WhereTold before.told (λ old. (latest : Folder) × (after.told ≡ Some latest) × (latest.finished ≡ old.finished ++ app_run_of start.bytes ∷ []))
-  pub hosts : RunsOnHosts start loaded
+-- The files that the folder gained are the copy of the program alone, which can be packed in this
+-- world; and on every such host it loads the same.
+pub record IsPortable (asked : Option Command) (world : World) (before after : View Folder) : Type 0
+  where
+    pub command : Quick
+    pub quick : asked ≡ Some (AsksQuick command)
+    pub start : WorldFile
+    pub loaded : Loaded
+    pub packable : IsPackable world command start loaded
+    pub files : WhereTold before.told
+        (λ old. (latest : Folder) × (after.told ≡ Some latest)
+        × (latest.finished ≡ old.finished ++ app_run_of start.bytes ∷ []))
+    pub hosts : RunsOnHosts start loaded

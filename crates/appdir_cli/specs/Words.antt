@@ -20,8 +20,8 @@ is_unshaped [] = true
 is_unshaped (c ∷ word) = c == 45
 
 -- a path that reads, in normal form
-abbrev pub path_in : List ℕ → Option (List ℕ)
-path_in text = result_ok (path_of text)
+abbrev pub path_told : List ℕ → Option (List ℕ)
+path_told text = result_ok (path_of text)
 
 abbrev pub default_names_list : List (List ℕ)
 default_names_list =
@@ -40,16 +40,20 @@ names_of [] = default_names_list
 names_of (name ∷ names) = name ∷ names
 
 abbrev pub quick_with : Option (List ℕ) → Option (List ℕ) → List (List ℕ) → Option Quick
-quick_with (Some p) (Some o) ns = cond (list_all is_file_name_text ns) (Some (record { program = p; out = o; names = names_of ns })) None
+quick_with (Some p) (Some o) ns =
+    cond (list_all is_file_name_text ns)
+    (Some (record { program = p; out = o; names = names_of ns })) None
 quick_with _ _ ns = None
 
 -- PROGRAM OUT [NAME ..]
 abbrev pub quick_of : List (List ℕ) → Option Quick
-quick_of (program ∷ out ∷ names) = quick_with (path_in program) (path_in out) names
+quick_of (program ∷ out ∷ names) = quick_with (path_told program) (path_told out) names
 quick_of _ = None
 
 abbrev pub shape_of : List (List ℕ) → Option Command
-shape_of (verb ∷ words) = cond (bytes_eq verb (codes "quick")) (option_map (λ quick. AsksQuick quick) (quick_of words)) None
+shape_of (verb ∷ words) =
+    cond (bytes_eq verb (codes "quick")) (option_map (λ quick. AsksQuick quick) (quick_of words))
+    None
 shape_of [] = None
 
 -- the command that the words have the shape of, or none

@@ -10,7 +10,8 @@ use load_model::Text;
 use path_text::NoMemory;
 use std::alloc::Global;
 
-/// The name of a flaw and its numbers, each after a space; of a flaw without a name its own number alone.
+/// The name of a flaw and its numbers, each after a space; of a flaw without a name its own number
+/// alone.
 #[tactic(auto, unfolding(crate::specs::Damage::flaw_text))]
 pub fn flaw_text(alloc: Global, flaw: &Flaw) -> Result<Text, NoMemory>
     ensures { IfOk result (λ text. text ≡ flaw_text flaw.now) }

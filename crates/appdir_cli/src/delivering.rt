@@ -11,7 +11,8 @@ use crate::writing::write_items;
 use ports::{OutDir, RootState, Sink};
 use std::alloc::Global;
 
-/// Writes the files into an empty folder, and says the line. What needs memory comes before the folder is opened.
+/// Writes the files into an empty folder, and says the line. What needs memory comes before the
+/// folder is opened.
 pub fn deliver<O: OutDir, S: Sink>(
     alloc: Global,
     whole: &Whole,

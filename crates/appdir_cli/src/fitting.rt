@@ -10,8 +10,9 @@ use load_model::{Face, Name, Run};
 use path_text::{Abs, NoMemory, PathFault};
 use std::alloc::Global;
 
-/// Whether the whole load list is on the list of names: the program has no soname and a listed interpreter; no object
-/// has a run path; each need is on the list, and went to an object, not the program, of which it is the key.
+/// Whether the whole load list is on the list of names: the program has no soname and a listed
+/// interpreter; no object has a run path; each need is on the list, and went to an object, not the
+/// program, of which it is the key.
 #[tactic(auto, unfolding(crate::specs::Fitting::run_is_all_listed))]
 pub fn is_all_listed(
     alloc: Global,
@@ -29,7 +30,9 @@ pub fn is_all_listed(
 }
 
 fn all_fit(names: &[Name], faces: &[Face], run: &Run) -> bool
-    ensures { result ≡ list_all (run_fits_object names.now faces.now run.now) (range_with_len 0 (length run.now.objs)) }
+    ensures { result
+        ≡ list_all (run_fits_object names.now faces.now run.now)
+        (range_with_len 0 (length run.now.objs)) }
 {
     (0..run.objs.as_slice().len()).all(|j| fits_object(names, faces, run, j))
 }
@@ -91,7 +94,8 @@ fn key_at<'a>(faces: &'a [Face], run: &'a Run, j: usize) -> Option<&'a [u8]>
 
 /// The face of the object of this number.
 fn face_at<'a>(faces: &'a [Face], run: &Run, j: usize) -> Option<&'a Face>
-    ensures { MatchOption result (face_at faces.now run.now j ≡ None) (λ face. face_at faces.now run.now j ≡ Some face.now) }
+    ensures { MatchOption result (face_at faces.now run.now j ≡ None)
+        (λ face. face_at faces.now run.now j ≡ Some face.now) }
 {
     match run.objs.as_slice().get(j) {
         Some(obj) => faces.get(obj.face as usize),

@@ -1,4 +1,5 @@
-//! The load list of a program, over the tree. Definitions: `specs/Packing.antt` (`LoadsAs`) and `specs/Stops.antt`.
+//! The load list of a program, over the tree. Definitions: `specs/Packing.antt` (`LoadsAs`) and
+//! `specs/Stops.antt`.
 
 ghost use Rattle.std.specs.Prelude.{◌≡◌, IfOk, All};
 ghost use Rattle.path_text.specs.Path.{IsNormalPath, path_of};
@@ -33,7 +34,8 @@ pub fn load_program<T: Tree>(
     tree: &mut T,
     program: &Abs,
 ) -> Result<LoadedProgram, Stop>
-    ensures answer { IsStepAnswer (T.seen tree.old) (T.seen tree.new) (λ world outcome. LoadsAs world program.now outcome) result }
+    ensures answer { IsStepAnswer (T.seen tree.old) (T.seen tree.new) (λ world outcome. LoadsAs
+        world program.now outcome) result }
     ensures only_reads { OnlyReads (T.seen tree.old) (T.seen tree.new) }
 {
     let setting = default_setting(alloc)?;
@@ -48,7 +50,8 @@ fn load_with<T: Tree>(
     program: &Abs,
 ) -> Result<LoadedProgram, Stop>
     requires { setting.now ≡ default_setting }
-    ensures answer { IsStepAnswer (T.seen tree.old) (T.seen tree.new) (λ world outcome. LoadsAs world program.now outcome) result }
+    ensures answer { IsStepAnswer (T.seen tree.old) (T.seen tree.new) (λ world outcome. LoadsAs
+        world program.now outcome) result }
     ensures only_reads { OnlyReads (T.seen tree.old) (T.seen tree.new) }
 {
     let mut opener = FileOpener {
@@ -73,7 +76,8 @@ fn load_over<T: Tree>(
 ) -> Result<Run, LoadStop>
     requires { setting.now.machine ≡ THE_MACHINE }
     ensures same_tree { opener.new.tree.ghost_name ≡ opener.old.tree.ghost_name }
-    ensures answer { IsTreeLoaded setting.now (T.seen opener.old.tree.now) (T.seen opener.new.tree.now) opener.new.table program.now result }
+    ensures answer { IsTreeLoaded setting.now (T.seen opener.old.tree.now) (T.seen
+        opener.new.tree.now) opener.new.table program.now result }
     ensures only_reads { OnlyReads (T.seen opener.old.tree.now) (T.seen opener.new.tree.now) }
 {
     load(alloc, opener, setting, program, &[])
@@ -129,7 +133,8 @@ fn stop_of_open(fault: OpenFault) -> Stop
     }
 }
 
-/// The loader's setting: programs of x86-64, the default directories, no text for the tokens LIB and PLATFORM.
+/// The loader's setting: programs of x86-64, the default directories, no text for the tokens LIB
+/// and PLATFORM.
 fn default_setting(alloc: Global) -> Result<Setting, NoMemory>
     ensures { IfOk result (λ setting. setting ≡ default_setting) }
 {

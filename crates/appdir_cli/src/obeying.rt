@@ -1,5 +1,5 @@
-//! Doing what a command asks for: what it comes to, and then its text or its files. Definitions: `specs/ComesTo.antt` and
-//! `specs/Endings.antt`.
+//! Doing what a command asks for: what it comes to, and then its text or its files. Definitions:
+//! `specs/ComesTo.antt` and `specs/Endings.antt`.
 
 ghost use Rattle.std.specs.Prelude.{◌≤◌};
 ghost use Rattle.appdir_cli.specs.ComesTo.{ComesTo};
@@ -18,7 +18,8 @@ use std::alloc::Global;
 
 /// What the command comes to.
 fn answer<T: Tree>(alloc: Global, tree: &mut T, command: &Command) -> Result<Answer, Stop>
-    ensures answer { IsStepAnswer (T.seen tree.old) (T.seen tree.new) (λ world outcome. ComesTo world command.now outcome) result }
+    ensures answer { IsStepAnswer (T.seen tree.old) (T.seen tree.new) (λ world outcome. ComesTo
+        world command.now outcome) result }
     ensures only_reads { OnlyReads (T.seen tree.old) (T.seen tree.new) }
 {
     match command {

@@ -1,4 +1,5 @@
-//! The opener of a loader over the tree: it reads each file whole, keeps its face, and lets the bytes go.
+//! The opener of a loader over the tree: it reads each file whole, keeps its face, and lets the
+//! bytes go.
 
 ghost use Rattle.std.specs.Prelude.{◌≡◌, ◌<◌, ◌^◌, ◌+◌, ◌∷◌, [], ◌++◌, IfOk, length, OnOk, OnErr};
 ghost use Rattle.load_model.specs.Opening.{AreFew, IsFew};
@@ -13,7 +14,8 @@ use ports::{Found, ProbeStop, Tree};
 use std::alloc::Global;
 use std::marker::Model;
 
-/// The faces that were read so far, each with symbols and asks that numbers of 32 bits count, as they do the faces.
+/// The faces that were read so far, each with symbols and asks that numbers of 32 bits count, as
+/// they do the faces.
 #[derive(Drop)]
 pub struct FaceTable {
     faces: List<Face>,

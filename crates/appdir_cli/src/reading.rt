@@ -1,4 +1,5 @@
-//! Reading files of the tree: whole ones, and objects as a loader sees them. Definitions: `specs/Reading.antt`.
+//! Reading files of the tree: whole ones, and objects as a loader sees them. Definitions:
+//! `specs/Reading.antt`.
 
 ghost use Rattle.std.specs.Prelude.{◌≡◌, ◌≤◌, ◌<◌, IfOk, IfErr, OnOk, length, take, vec_len};
 ghost use Rattle.answers.specs.Told.{WhereTold};
@@ -36,13 +37,15 @@ pub enum Seen {
     Flawed(Flaw),
 }
 
-/// Reads the file of this length at a path as a loader sees it. Each byte is read once, from the first window on; of a
-/// file that is for another machine, or too long, the first window alone.
+/// Reads the file of this length at a path as a loader sees it. Each byte is read once, from the
+/// first window on; of a file that is for another machine, or too long, the first window alone.
 pub fn see<T: Tree>(alloc: Global, tree: &mut T, path: &Abs, len: u64) -> Result<Seen, Stop>
     requires { WhereTold (T.seen tree.old).told (λ world. length (bytes_at world path.now) ≡ len) }
-    ensures seen { IfOk result (λ seen. WhereTold (T.seen tree.old).told (λ world. seen ≡ seen_in (bytes_at world path.now))) }
+    ensures seen { IfOk result (λ seen. WhereTold (T.seen tree.old).told (λ world. seen ≡ seen_in
+        (bytes_at world path.now))) }
     ensures few { IfOk result (λ seen. IsFewSeen seen) }
-    ensures cause { IfErr result (λ stop. IsReadCause (T.seen tree.old).faults (T.seen tree.new).faults stop) }
+    ensures cause { IfErr result (λ stop. IsReadCause (T.seen tree.old).faults (T.seen
+        tree.new).faults stop) }
     ensures only_reads { OnlyReads (T.seen tree.old) (T.seen tree.new) }
 {
     let mut window = vec![in alloc; 0; WINDOW]?;
@@ -73,8 +76,10 @@ pub fn read_whole<T: Tree>(
     len: u64,
 ) -> Result<Vec<u8>, Stop>
     requires { WhereTold (T.seen tree.old).told (λ world. length (bytes_at world path.now) ≡ len) }
-    ensures bytes { IfOk result (λ bytes. WhereTold (T.seen tree.old).told (λ world. bytes.items ≡ bytes_at world path.now)) }
-    ensures cause { IfErr result (λ stop. IsReadCause (T.seen tree.old).faults (T.seen tree.new).faults stop) }
+    ensures bytes { IfOk result (λ bytes. WhereTold (T.seen tree.old).told (λ world. bytes.items ≡
+        bytes_at world path.now)) }
+    ensures cause { IfErr result (λ stop. IsReadCause (T.seen tree.old).faults (T.seen
+        tree.new).faults stop) }
     ensures only_reads { OnlyReads (T.seen tree.old) (T.seen tree.new) }
 {
     let mut window = vec![in alloc; 0; WINDOW]?;
@@ -120,12 +125,16 @@ fn read_to<T: Tree>(
     requires room { 0 < length window.old }
     requires wanted { wanted ≤ len }
     requires fits { vec_len bytes.old ≤ len }
-    requires within { WhereTold (T.seen tree.old).told (λ world. len ≤ length (bytes_at world path.now)) }
-    requires front { WhereTold (T.seen tree.old).told (λ world. bytes.old.items ≡ take (vec_len bytes.old) (bytes_at world path.now)) }
+    requires within { WhereTold (T.seen tree.old).told (λ world. len ≤ length (bytes_at world
+        path.now)) }
+    requires front { WhereTold (T.seen tree.old).told (λ world. bytes.old.items ≡ take (vec_len
+        bytes.old) (bytes_at world path.now)) }
     ensures enough { OnOk result (wanted ≤ vec_len bytes.new) }
     ensures fits { OnOk result (vec_len bytes.new ≤ len) }
-    ensures front { OnOk result (WhereTold (T.seen tree.old).told (λ world. bytes.new.items ≡ take (vec_len bytes.new) (bytes_at world path.now))) }
-    ensures cause { IfErr result (λ stop. IsReadCause (T.seen tree.old).faults (T.seen tree.new).faults stop) }
+    ensures front { OnOk result (WhereTold (T.seen tree.old).told (λ world. bytes.new.items ≡ take
+        (vec_len bytes.new) (bytes_at world path.now))) }
+    ensures cause { IfErr result (λ stop. IsReadCause (T.seen tree.old).faults (T.seen
+        tree.new).faults stop) }
     ensures only_reads { OnlyReads (T.seen tree.old) (T.seen tree.new) }
 {
     'fill: while (bytes.len() as u64) < wanted {
@@ -144,12 +153,16 @@ fn read_more<T: Tree>(
 ) -> Result<(), Stop>
     requires room { 0 < length window.old }
     requires more { vec_len bytes.old < len }
-    requires within { WhereTold (T.seen tree.old).told (λ world. len ≤ length (bytes_at world path.now)) }
-    requires front { WhereTold (T.seen tree.old).told (λ world. bytes.old.items ≡ take (vec_len bytes.old) (bytes_at world path.now)) }
+    requires within { WhereTold (T.seen tree.old).told (λ world. len ≤ length (bytes_at world
+        path.now)) }
+    requires front { WhereTold (T.seen tree.old).told (λ world. bytes.old.items ≡ take (vec_len
+        bytes.old) (bytes_at world path.now)) }
     ensures grown { OnOk result (vec_len bytes.old < vec_len bytes.new) }
     ensures at_most { OnOk result (vec_len bytes.new ≤ len) }
-    ensures front { OnOk result (WhereTold (T.seen tree.old).told (λ world. bytes.new.items ≡ take (vec_len bytes.new) (bytes_at world path.now))) }
-    ensures cause { IfErr result (λ stop. IsReadCause (T.seen tree.old).faults (T.seen tree.new).faults stop) }
+    ensures front { OnOk result (WhereTold (T.seen tree.old).told (λ world. bytes.new.items ≡ take
+        (vec_len bytes.new) (bytes_at world path.now))) }
+    ensures cause { IfErr result (λ stop. IsReadCause (T.seen tree.old).faults (T.seen
+        tree.new).faults stop) }
     ensures only_reads { OnlyReads (T.seen tree.old) (T.seen tree.new) }
 {
     let at = bytes.len();
@@ -162,7 +175,8 @@ fn read_more<T: Tree>(
     Ok(())
 }
 
-/// Whether the first bytes of a file are those of an object of another class, byte order or machine.
+/// Whether the first bytes of a file are those of an object of another class, byte order or
+/// machine.
 fn is_for_another(front: &[u8]) -> bool
     ensures { result ≡ is_other EM_X86_64 front.now }
 {

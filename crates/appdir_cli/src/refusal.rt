@@ -53,7 +53,9 @@ pub fn not_empty_text(alloc: Global, path: &Abs) -> Result<Text, NoMemory>
 
 /// `refused N: ` and what is said.
 fn numbered(alloc: Global, number: u8, evidence: &[u8]) -> Result<Text, NoMemory>
-    ensures { IfOk result (λ line. line ≡ codes "refused " ++ (decimal number ++ (codes ": " ++ (evidence.now ++ 10 ∷ [])))) }
+    ensures { IfOk result
+        (λ line. line ≡ codes "refused "
+        ++ (decimal number ++ (codes ": " ++ (evidence.now ++ 10 ∷ [])))) }
 {
     let front = format!(in alloc; "refused {number}: ")?;
     let mut line = Vec::from_slice(alloc, front.as_bytes())?;
@@ -153,7 +155,9 @@ fn too_many(alloc: Global, path: &Abs) -> Result<Text, NoMemory>
 }
 
 fn unsatisfied(alloc: Global, path: &Abs, file: &Name, version: &Name) -> Result<Text, NoMemory>
-    ensures { IfOk result (λ text. text ≡ load_evidence (LoadRefusal.UnsatisfiedVersion path.now file.now version.now)) }
+    ensures { IfOk result
+        (λ text. text
+        ≡ load_evidence (LoadRefusal.UnsatisfiedVersion path.now file.now version.now)) }
 {
     let end = with_field(alloc, b" for ", version.as_bytes(), b"")?;
     asks(alloc, path, file, end.as_bytes())
@@ -161,7 +165,8 @@ fn unsatisfied(alloc: Global, path: &Abs, file: &Name, version: &Name) -> Result
 
 /// A path that asks a file, and what is said of it.
 fn asks(alloc: Global, path: &Abs, file: &Name, after: &[u8]) -> Result<Text, NoMemory>
-    ensures { IfOk result (λ text. text ≡ with_fields [] path.now (codes " asks ") file.now after.now) }
+    ensures { IfOk result
+        (λ text. text ≡ with_fields [] path.now (codes " asks ") file.now after.now) }
 {
     let end = with_field(alloc, b" asks ", file.as_bytes(), after)?;
     with_field(alloc, b"", path.as_str().as_bytes(), end.as_bytes())
@@ -192,7 +197,8 @@ fn with_field(alloc: Global, before: &[u8], field: &[u8], after: &[u8]) -> Resul
     Ok(Text::from_vec(text))
 }
 
-/// The line for a whole AppDir: how many files it has, and how many libraries are bundled and expected of the host.
+/// The line for a whole AppDir: how many files it has, and how many libraries are bundled and
+/// expected of the host.
 pub fn done_text(
     alloc: Global,
     files: usize,

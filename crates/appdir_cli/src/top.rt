@@ -1,4 +1,5 @@
-//! The top call. Definitions: `specs/Endings.antt`, `specs/ComesTo.antt` and `specs/TwoWorlds.antt`.
+//! The top call. Definitions: `specs/Endings.antt`, `specs/ComesTo.antt` and
+//! `specs/TwoWorlds.antt`.
 
 ghost use Rattle.std.specs.Prelude.{◌≡◌, ◌≤◌};
 ghost use Rattle.answers.specs.Told.{WhereTold};
@@ -15,7 +16,8 @@ use crate::words::read_words;
 use ports::{OutDir, Sink, Tree};
 use std::alloc::Global;
 
-/// Does what the words ask for: reads files from the tree, writes an AppDir into the folder, and prints to the sink.
+/// Does what the words ask for: reads files from the tree, writes an AppDir into the folder, and
+/// prints to the sink.
 pub fn appdir_main<T: Tree, O: OutDir, S: Sink>(
     alloc: Global,
     words: &[String],
@@ -32,7 +34,8 @@ pub fn appdir_main<T: Tree, O: OutDir, S: Sink>(
     ensures two_worlds { WhereTold (T.seen tree.old).told
         (λ world. RunsAlike (command_of (texts words.now)) world) }
     ensures portable { result ≡ Status.Done → WhereTold (T.seen tree.old).told
-        (λ world. IsPortable (command_of (texts words.now)) world (O.seen out.old) (O.seen out.new)) }
+        (λ world. IsPortable (command_of (texts words.now)) world (O.seen out.old)
+        (O.seen out.new)) }
     ensures only_reads { OnlyReads (T.seen tree.old) (T.seen tree.new) }
     ensures folder_faults { (O.seen out.old).faults ≤ (O.seen out.new).faults }
     ensures sink_faults { (S.seen sink.old).faults ≤ (S.seen sink.new).faults }

@@ -1,14 +1,15 @@
 ghost use Rattle.std.specs.Prelude.{◌≡◌, [], ◌∷◌, ◌++◌, IfOk, MatchOption, OnOk, string_bytes};
 ghost use Rattle.std.specs.List.{list_all, list_any};
 ghost use Rattle.path_text.specs.FileName.{is_file_name_text};
-ghost use Rattle.appdir_cli.specs.Words.{command_of, default_names_list, is_unshaped, names_of, path_in, quick_of, quick_with, shape_of, texts};
+ghost use Rattle.appdir_cli.specs.Words.{command_of, default_names_list, is_unshaped, names_of, path_told, quick_of, quick_with, shape_of, texts};
 
 use load_model::{List, Name};
 use path_text::{Abs, NoMemory, PathFault, is_file_name};
 use std::alloc::Global;
 
-/// `quick PROGRAM OUT [NAME ..]`: pack one program without a desktop entry. `names` are the libraries that every
-/// host is expected to have: the words NAME, or the default names where none is given.
+/// `quick PROGRAM OUT [NAME ..]`: pack one program without a desktop entry. `names` are the
+/// libraries that every host is expected to have: the words NAME, or the default names where none
+/// is given.
 #[derive(Drop)]
 pub struct Quick {
     pub program: Abs,
@@ -59,7 +60,8 @@ fn is_unshaped_word(word: &[u8]) -> bool
 
 /// The first word and the words behind it.
 fn split_word(words: &[String]) -> Option<(&[u8], &[String])>
-    ensures { MatchOption result (texts words.now ≡ []) (λ p. texts words.now ≡ p.0.now ∷ texts p.1.now) }
+    ensures { MatchOption result (texts words.now ≡ [])
+        (λ p. texts words.now ≡ p.0.now ∷ texts p.1.now) }
 {
     match words.split_first() {
         Some((first, rest)) => Some((first.as_bytes(), rest)),
@@ -128,7 +130,7 @@ fn all_file_names(words: &[String]) -> bool
 }
 
 fn read_path(alloc: Global, text: &[u8]) -> Result<Option<Abs>, NoMemory>
-    ensures { IfOk result (λ path. path ≡ path_in text.now) }
+    ensures { IfOk result (λ path. path ≡ path_told text.now) }
 {
     match Abs::read(alloc, text) {
         Ok(path) => Ok(Some(path)),

@@ -34,7 +34,8 @@ begins_at place (Some range) = range.0 == place
 -- the header's offset.
 abbrev pub misplaced : List Segment → Segment → Option Flaw
 misplaced segments s =
-    some_where (nat_lt s.filesz DYN_SIZE || not (begins_at s.offset (range_in segments s.vaddr s.filesz)))
+    some_where (nat_lt s.filesz DYN_SIZE || not (begins_at s.offset (range_in segments s.vaddr
+    s.filesz)))
     (flaw DYNAMIC_PLACE 0 0)
 
 -- NoEnd: there is no DT_NULL.

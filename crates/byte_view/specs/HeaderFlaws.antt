@@ -48,7 +48,8 @@ wrong_machine file =
 -- Kind: the file is neither a program nor a shared object.
 abbrev pub wrong_kind : List ℕ → Option Flaw
 wrong_kind file =
-    some_where (not ((e_type file == ET_EXEC) || (e_type file == ET_DYN))) (flaw KIND (e_type file) 0)
+    some_where (not ((e_type file == ET_EXEC) || (e_type file == ET_DYN)))
+    (flaw KIND (e_type file) 0)
 
 -- HeaderSize: a header has another size, or there is no number of program headers. The flaw tells
 -- the place of the field.

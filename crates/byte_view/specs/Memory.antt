@@ -43,7 +43,8 @@ file_range addr len s = (s.offset + (addr - s.vaddr), s.offset + (addr - s.vaddr
 -- The same by the segment that backs them all; no addresses are backed always.
 unfoldable pub range_in : List Segment → ℕ → ℕ → Option (ℕ × ℕ)
 range_in segments addr len =
-    cond (len == 0) (Some (0, 0)) (option_map (file_range addr len) (find (backs addr len) segments))
+    cond (len == 0) (Some (0, 0))
+    (option_map (file_range addr len) (find (backs addr len) segments))
 
 -- No two segments hold one address.
 pub record AtMostOneHolds (segments : List Segment) : Type 0 where

@@ -1,4 +1,5 @@
--- Numbers in the bytes of a file: the lowest byte first (System V gABI, Data Encoding, ELFDATA2LSB).
+-- Numbers in the bytes of a file: the lowest byte first (System V gABI, Data Encoding,
+-- ELFDATA2LSB).
 use Rattle.std.specs.Prelude.{ℕ, List, drop}
 use Rattle.byteorder.specs.Endian.{little_number}
 

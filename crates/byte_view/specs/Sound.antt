@@ -18,7 +18,8 @@ AreApart segments = AllPairs (λ a b. (a.vaddr ≤ b.vaddr) × (memory_end a ≤
 -- A loader can map the segments from a file of this length.
 pub record AreSound (len : ℕ) (segments : List Segment) : Type 0 where
   pub mappable :
-      (k : ℕ) (d : Segment) → k < length segments → has_bad_range len (slice_index_or segments k d) ≡ false
+      (k : ℕ) (d : Segment) → k < length segments
+      → has_bad_range len (slice_index_or segments k d) ≡ false
   pub loaded : list_any is_load segments ≡ true
   pub apart : AreApart (filter is_load segments)
   pub one : AtMostOneHolds segments

@@ -9,8 +9,8 @@ use Rattle.byte_view.specs.declared.constants.TheConstants.{DYN_SIZE, D_VAL_AT}
 use Rattle.byte_view.specs.declared.dynamic.Entry.{Entry}
 use Rattle.byte_view.specs.declared.segments.Segment.{Segment}
 
--- The entries before the end, how many there is room for, and where the strings begin and end in the
--- file.
+-- The entries before the end, how many there is room for, and where the strings begin and end in
+-- the file.
 pub record Table : Type 0 where
   pub entries : List Entry
   pub capacity : ℕ
@@ -23,7 +23,8 @@ pub record IsTableOf (t : Table) (file : List ℕ) : Type 0 where
   pub entries : t.entries ≡ dynamic_entries file
   pub capacity : t.capacity ≡ dynamic_capacity file
   pub strings :
-      take (t.to - t.from) (drop t.from file) ≡ strings_of file (headers file) (dynamic_entries file)
+      take (t.to - t.from) (drop t.from file)
+      ≡ strings_of file (headers file) (dynamic_entries file)
   pub order : t.from ≤ t.to
   pub within : t.to ≤ length file
 

@@ -114,7 +114,8 @@ fn check_table(elf: &Elf, bytes: &[u8], table: &[Entry]) -> Result<Parts, DynFau
     ensures end { IfOk result (λ parts. take parts.end table.now ≡ before_first is_end table.now) }
     ensures strings { IfOk result (λ parts.
         let entries = before_first is_end table.now in
-        range_in elf.now (strings_at entries) (strings_size entries) ≡ Some (parts.from, parts.to)) }
+        range_in elf.now (strings_at entries) (strings_size entries)
+        ≡ Some (parts.from, parts.to)) }
 {
     let Some(end) = first_end(table) else {
         return Err(flawed(NO_END, 0));

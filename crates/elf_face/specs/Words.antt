@@ -12,4 +12,5 @@ abbrev pub is_asked : List ℕ → ℕ → Bool
 is_asked file file_word = not (number_or_0 2 file (file_word - 2) == 0)
 
 abbrev pub names_no_text_at : List ℕ → ℕ → Bool
-names_no_text_at file file_word = is_asked file file_word && is_no_text file (number_or_0 4 file file_word)
+names_no_text_at file file_word =
+    is_asked file file_word && is_no_text file (number_or_0 4 file file_word)

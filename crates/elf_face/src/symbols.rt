@@ -6,21 +6,13 @@ ghost use Rattle.std.specs.Prelude.{◌≡◌, IfOk};
 ghost use Rattle.dyn_table.specs.Table.{IsTableOf};
 ghost use Rattle.load_model.specs.Faces.{sym_of, syms_of};
 ghost use Rattle.load_model.specs.SymbolFlaws.{symbol_count, symbols_of};
-ghost use Rattle.load_model.specs.SymbolWords.{has_value};
 ghost use Rattle.load_model.specs.VersionTables.{hidden_of, versions_of};
 
 use crate::texts::text_of;
-use byte_view::constants::{SHN_ABS, SHN_UNDEF, STT_TLS};
+use byte_view::constants::SHN_UNDEF;
 use dyn_table::Dyn;
-use load_model::{List, Name, NoMemory, RawSym, Sym, Ver};
+use load_model::{List, Name, NoMemory, RawSym, Sym, Ver, has_value};
 use std::alloc::Global;
-
-/// Does it have a value that a reference can bind to?
-fn has_value(s: &RawSym) -> bool
-    ensures { result ≡ has_value s.now }
-{
-    s.value != 0 || s.section != SHN_UNDEF && (s.info % 16 == STT_TLS || s.section == SHN_ABS)
-}
 
 /// A symbol by its words, its version, and whether it is hidden.
 fn sym_of(

@@ -25,7 +25,8 @@ const PUTS_VERSION: usize = 338;
 const NEED_COUNT: usize = 402;
 /// `vn_file`, the string place of the file that versions are needed of.
 const VERSION_FILE: usize = 404;
-/// The tags of the entries for the first need, the soname and `DT_SYMBOLIC`, and the value of the last.
+/// The tags of the entries for the first need, the soname and `DT_SYMBOLIC`, and the value of the
+/// last.
 const FIRST_NEED_TAG: usize = 448;
 
 const SONAME_TAG: usize = 480;
@@ -43,10 +44,10 @@ const FLAGS: u8 = 30;
 /// A byte that stands in no UTF-8.
 const NO_TEXT: u8 = 0xff;
 
-/// A symbolic library `q` that needs `c` and `d` and has the run path `/r`: two program headers at 64, the
-/// strings at 176, the symbols at 208, versions from 336 on, the dynamic table at 448. It calls `puts`
-/// of version `G` from `c`, defines `f` hidden with version `V` and `v` without a version, and asks
-/// `c` for `W`, which may be missing.
+/// A symbolic library `q` that needs `c` and `d` and has the run path `/r`: two program headers at
+/// 64, the strings at 176, the symbols at 208, versions from 336 on, the dynamic table at 448. It
+/// calls `puts` of version `G` from `c`, defines `f` hidden with version `V` and `v` without a
+/// version, and asks `c` for `W`, which may be missing.
 #[rattlefmt::skip]
 fn library() -> [u8; 704] {
     [
@@ -127,8 +128,8 @@ fn push_names(text: &mut Vec<u8>, names: &[Name]) -> Result<(), AllocError> {
     Ok(())
 }
 
-/// Adds a line of a symbol: its name and version, with a star where it is hidden, whether it is defined
-/// and has a value, and its binding, type and visibility.
+/// Adds a line of a symbol: its name and version, with a star where it is hidden, whether it is
+/// defined and has a value, and its binding, type and visibility.
 fn push_symbol(alloc: Global, text: &mut Vec<u8>, sym: &Sym) -> Result<(), AllocError> {
     text.push(b'\n')?;
     text.extend_from_slice(sym.name.as_bytes())?;
@@ -148,8 +149,9 @@ fn push_symbol(alloc: Global, text: &mut Vec<u8>, sym: &Sym) -> Result<(), Alloc
     text.extend_from_slice(rest.as_bytes())
 }
 
-/// A face as a text: interpreter, soname, run paths, machine, whether it is symbolic and has version
-/// indexes; needs; definitions; asks, with a question mark where they may be missing; symbols.
+/// A face as a text: interpreter, soname, run paths, machine, whether it is symbolic and has
+/// version indexes; needs; definitions; asks, with a question mark where they may be missing;
+/// symbols.
 fn described(alloc: Global, face: &Face) -> Result<Vec<u8>, AllocError> {
     let mut text = Vec::new(alloc);
     push_word(&mut text, &face.interp)?;

@@ -41,8 +41,8 @@ fn word_or_0(bytes: &[u8], place: u64) -> u64
     }
 }
 
-/// Is a version asked of the file that the word at this place names? The number of its versions stands
-/// two bytes before.
+/// Is a version asked of the file that the word at this place names? The number of its versions
+/// stands two bytes before.
 fn is_asked(bytes: &[u8], file_word: u64) -> bool
     ensures { result ≡ is_asked bytes.now file_word }
 {

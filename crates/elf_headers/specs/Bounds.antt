@@ -5,6 +5,6 @@ use Rattle.byte_view.specs.declared.segments.Segment.{Segment}
 use Rattle.elf_headers.specs.declared.segments.Bound.{Bound}
 use Rattle.elf_headers.specs.declared.segments.Bound.TheVariants.{Beginning, End}
 
-abbrev pub bound_by : Bound → Segment → ℕ
-bound_by Beginning s = s.vaddr
-bound_by End s = memory_end s
+abbrev pub bound_of : Bound → Segment → ℕ
+bound_of Beginning s = s.vaddr
+bound_of End s = memory_end s

@@ -5,7 +5,7 @@ ghost use Rattle.std.specs.List.{list_any, position_from};
 ghost use Rattle.answers.specs.Answers.{TellsBy};
 ghost use Rattle.byte_view.specs.HeaderFlaws.{first_below, has_bad_range, headers_end, is_alignment, is_cut, is_unmappable, segment_flaw};
 ghost use Rattle.byte_view.specs.Headers.{headers, is_dynamic, is_interp, is_load};
-ghost use Rattle.elf_headers.specs.Bounds.{bound_by};
+ghost use Rattle.elf_headers.specs.Bounds.{bound_of};
 ghost use Rattle.elf_headers.specs.Faults.{elf_fault_flaw};
 
 use crate::faults::{ElfFault, flawed};
@@ -82,7 +82,7 @@ enum Bound {
 
 impl Bound {
     fn of(self, s: &Segment) -> u128
-        ensures { result ≡ bound_by self s.now }
+        ensures { result ≡ bound_of self s.now }
     {
         match self {
             Bound::Beginning => u128::from(s.vaddr),
@@ -95,7 +95,7 @@ impl Bound {
 /// sets.
 #[tactic(auto, unfolding(byte_view::specs::HeaderFlaws::first_below))]
 fn first_below(segments: &[Segment], bound: Bound) -> Option<usize>
-    ensures { result ≡ first_below (bound_by bound) 0 0 segments.now }
+    ensures { result ≡ first_below (bound_of bound) 0 0 segments.now }
 {
     let mut low: u128 = 0;
     for (i, s) in segments.iter().enumerate() {

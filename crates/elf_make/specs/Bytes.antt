@@ -1,4 +1,5 @@
--- Numbers in a made file, the lowest byte first (System V gABI, Data Encoding, ELFDATA2LSB), and what fills a part up
+-- Numbers in a made file, the lowest byte first (System V gABI, Data Encoding, ELFDATA2LSB), and
+-- what fills a part up
 use Rattle.std.specs.Prelude.{ℕ, ◌-◌, ◌%◌, List, ◌++◌, length, flat_map, replicate}
 use Rattle.byteorder.specs.Endian.{little_bytes}
 

@@ -43,7 +43,8 @@ version_entries versions places =
     ++ (cond (is_none_of versions.definitions) []
     (tagged DT_VERDEF places.verdef ∷ tagged DT_VERDEFNUM (1 + length versions.definitions) ∷ [])
     ++ cond (is_none_of versions.needed) []
-    (tagged DT_VERNEED places.verneed ∷ tagged DT_VERNEEDNUM (length (files_of versions.needed)) ∷ []))
+    (tagged DT_VERNEED places.verneed ∷ tagged DT_VERNEEDNUM (length (files_of versions.needed))
+    ∷ []))
 
 -- the end, and as many entries more as are spare
 unfoldable pub end_entries : ℕ → List Entry
@@ -51,7 +52,8 @@ end_entries spare = tagged DT_NULL 0 ∷ replicate spare (tagged DT_NULL 0)
 
 unfoldable pub entries_of : Shape → Versions → List (List ℕ) → Parts → Places → List Entry
 entries_of shape versions texts parts places =
-    name_entries shape texts ++ (table_entries shape parts places ++ (version_entries versions places ++ end_entries shape.spare))
+    name_entries shape texts ++ (table_entries shape parts places ++ (version_entries versions
+    places ++ end_entries shape.spare))
 
 -- an entry has 16 bytes: tag, value
 unfoldable pub entry_bytes : List Entry → List ℕ

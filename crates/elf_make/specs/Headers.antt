@@ -16,7 +16,8 @@ ident = 0x7f ∷ 0x45 ∷ 0x4c ∷ 0x46 ∷ 2 ∷ 1 ∷ 1 ∷ 0 ∷ 0 ∷ 0 ∷ 
 unfoldable pub kind_words : ℕ → List ℕ
 kind_words machine = ident ++ (halves (ET_DYN ∷ machine ∷ []) ++ words (EV_CURRENT ∷ []))
 
--- e_entry, e_phoff, e_shoff; e_flags; e_ehsize, e_phentsize, e_phnum, e_shentsize, e_shnum, e_shstrndx
+-- e_entry, e_phoff, e_shoff; e_flags; e_ehsize, e_phentsize, e_phnum, e_shentsize, e_shnum,
+-- e_shstrndx
 unfoldable pub table_words : ℕ → ℕ → ℕ → ℕ → List ℕ
 table_words segments place size sections =
     longs (0 ∷ EHDR_SIZE ∷ place ∷ []) ++ (words (0 ∷ [])
@@ -26,7 +27,8 @@ table_words segments place size sections =
 unfoldable pub file_header : Shape → ℕ → List ℕ
 file_header shape place =
     kind_words shape.machine
-    ++ cond shape.sections (table_words (segment_count shape) place SHDR_SIZE 2) (table_words (segment_count shape) 0 0 0)
+    ++ cond shape.sections (table_words (segment_count shape) place SHDR_SIZE 2)
+    (table_words (segment_count shape) 0 0 0)
 
 -- a segment that is a part of the file, with `more` bytes in memory behind it
 abbrev pub segment : ℕ → ℕ → ℕ → ℕ → ℕ → ℕ → Segment
@@ -44,7 +46,8 @@ segment kind flags place size more align = record {
 -- the header table and the interpreter, where there is one
 abbrev pub interp_segments : Shape → Parts → Places → List Segment
 interp_segments shape parts places = cond (is_some shape.interp)
-    (segment PT_PHDR PF_R EHDR_SIZE (PHDR_SIZE * 4) 0 8 ∷ segment PT_INTERP PF_R places.interp (length parts.interp) 0 1 ∷ []) []
+    (segment PT_PHDR PF_R EHDR_SIZE (PHDR_SIZE * 4) 0 8
+    ∷ segment PT_INTERP PF_R places.interp (length parts.interp) 0 1 ∷ []) []
 
 abbrev pub page_of : ℕ → ℕ
 page_of machine = cond (machine == 183) 65536 4096
@@ -53,7 +56,8 @@ page_of machine = cond (machine == 183) 65536 4096
 unfoldable pub segments_of : Shape → Parts → Places → ℕ → List Segment
 segments_of shape parts places dynamic_size =
     interp_segments shape parts places
-    ++ (segment PT_LOAD (PF_R + PF_W) 0 (places.dynamic + dynamic_size) shape.zero (page_of shape.machine)
+    ++ (segment PT_LOAD (PF_R + PF_W) 0 (places.dynamic + dynamic_size) shape.zero
+    (page_of shape.machine)
     ∷ segment PT_DYNAMIC (PF_R + PF_W) places.dynamic dynamic_size 0 8 ∷ [])
 
 -- a program header has 56 bytes
@@ -65,8 +69,10 @@ segment_bytes segments = flat_map (λ s. words (s.kind ∷ s.flags ∷ [])
 -- name, type; flags, addr, offset, size; link, info; addralign, entsize
 unfoldable pub section_headers : ℕ → ℕ → List ℕ
 section_headers place size =
-    longs (0 ∷ 0 ∷ 0 ∷ 0 ∷ 0 ∷ 0 ∷ 0 ∷ 0 ∷ []) ++ (words (0 ∷ SHT_DYNSYM ∷ []) ++ (longs (0 ∷ place ∷ place ∷ size ∷ [])
+    longs (0 ∷ 0 ∷ 0 ∷ 0 ∷ 0 ∷ 0 ∷ 0 ∷ 0 ∷ [])
+    ++ (words (0 ∷ SHT_DYNSYM ∷ []) ++ (longs (0 ∷ place ∷ place ∷ size ∷ [])
     ++ (words (0 ∷ 1 ∷ []) ++ longs (0 ∷ SYM_SIZE ∷ []))))
 
 unfoldable pub sections_of : Shape → Parts → Places → List ℕ
-sections_of shape parts places = wanted shape.sections (section_headers places.symbols (length parts.symbols))
+sections_of shape parts places =
+    wanted shape.sections (section_headers places.symbols (length parts.symbols))

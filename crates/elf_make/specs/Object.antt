@@ -2,7 +2,7 @@
 use Rattle.std.specs.Prelude.{ℕ, ◌+◌, List, ◌++◌}
 use Rattle.byte_view.specs.declared.dynamic.Entry.{Entry}
 use Rattle.elf_make.specs.Versions.{made_versions}
-use Rattle.elf_make.specs.Texts.{texts_of}
+use Rattle.elf_make.specs.Texts.{shape_texts}
 use Rattle.elf_make.specs.Symbols.{made_symbols}
 use Rattle.elf_make.specs.Parts.{made_parts, parts_begin, places_of, part_bytes}
 use Rattle.elf_make.specs.DynamicTable.{entries_of, entry_bytes, dynamic_size}
@@ -22,7 +22,7 @@ made_file shape parts places entries =
 unfoldable pub made_object : Shape → List ℕ
 made_object shape =
     let versions = made_versions shape in
-    let texts : List (List ℕ) = texts_of shape versions in
+    let texts : List (List ℕ) = shape_texts shape versions in
     let parts : Parts = made_parts shape versions texts (made_symbols shape texts versions) in
     let places : Places = places_of (parts_begin shape) parts in
     made_file shape parts places (entries_of shape versions texts parts places)

@@ -33,7 +33,8 @@ made_parts shape versions texts symbols = record {
   verneed = verneed_of texts versions;
 }
 
--- how many program headers there are, and where what follows them begins: both tables have places that 8 divides
+-- how many program headers there are, and where what follows them begins: both tables have places
+-- that 8 divides
 abbrev pub segment_count : Shape → ℕ
 segment_count shape = cond (is_some shape.interp) 4 2
 
@@ -70,7 +71,8 @@ places_of begin parts =
 -- the parts, each filled up
 unfoldable pub symbol_parts : Parts → List ℕ
 symbol_parts parts =
-    padded parts.interp ++ (padded parts.strings ++ (padded parts.symbols ++ (padded parts.sysv ++ padded parts.gnu)))
+    padded parts.interp ++ (padded parts.strings ++ (padded parts.symbols ++ (padded parts.sysv ++
+    padded parts.gnu)))
 
 unfoldable pub version_parts : Parts → List ℕ
 version_parts parts = padded parts.versym ++ (padded parts.verdef ++ padded parts.verneed)

@@ -16,7 +16,8 @@ abbrev pub global_info : ℕ → ℕ
 global_info kind = 16 * STB_GLOBAL + kind % 16
 
 abbrev pub null_symbol : Symbol
-null_symbol = record { name = 0; hash = 0; info = 0; section = SHN_UNDEF; value = 0; size = 0; version = 0 }
+null_symbol =
+    record { name = 0; hash = 0; info = 0; section = SHN_UNDEF; value = 0; size = 0; version = 0 }
 
 unfoldable pub import_symbol : List (List ℕ) → Versions → Import → Symbol
 import_symbol texts versions i = record {
@@ -44,7 +45,8 @@ export_symbol texts versions index e = record {
 -- the exports, of which the first has this index
 abbrev pub exports_from : List (List ℕ) → Versions → ℕ → List Export → List Symbol
 exports_from texts versions index [] = []
-exports_from texts versions index (e ∷ more) = export_symbol texts versions index e ∷ exports_from texts versions (index + 1) more
+exports_from texts versions index (e ∷ more) =
+    export_symbol texts versions index e ∷ exports_from texts versions (index + 1) more
 
 abbrev pub has_no_value : Import → Bool
 has_no_value i = i.value == 0
@@ -65,7 +67,9 @@ made_symbols shape texts versions =
 
 -- a symbol has 24 bytes: name, info, other, section, value, size
 unfoldable pub symbol_bytes : Symbol → List ℕ
-symbol_bytes s = words (s.name ∷ []) ++ ((s.info ∷ 0 ∷ []) ++ (halves (s.section ∷ []) ++ longs (s.value ∷ s.size ∷ [])))
+symbol_bytes s =
+    words (s.name ∷ []) ++ ((s.info ∷ 0 ∷ []) ++ (halves (s.section ∷ []) ++ longs (s.value ∷ s.size
+    ∷ [])))
 
 unfoldable pub symbol_table : List Symbol → List ℕ
 symbol_table symbols = flat_map symbol_bytes symbols

@@ -67,7 +67,8 @@ has_version_indexes versions = not (is_none_of versions.definitions && is_none_o
 abbrev pub place_of : {X : Type 0} → (X → Bool) → List X → ℕ
 place_of test xs = unwrap_or (position_from test 0 xs) 0
 
--- index 1 is the file itself: the definitions have the indexes from 2 on, and what is needed those that follow
+-- index 1 is the file itself: the definitions have the indexes from 2 on, and what is needed those
+-- that follow
 abbrev pub index_of_definition : List (List ℕ) → List ℕ → ℕ
 index_of_definition definitions name = 2 + place_of (λ d. bytes_eq d name) definitions
 
@@ -80,7 +81,8 @@ HasFewVersions versions = first_needed_index versions + length versions.needed �
 
 abbrev pub index_of_needed : Versions → Option Ask → ℕ
 index_of_needed versions None = VER_NDX_GLOBAL
-index_of_needed versions (Some a) = first_needed_index versions + place_of (is_version a.file a.name) versions.needed
+index_of_needed versions (Some a) =
+    first_needed_index versions + place_of (is_version a.file a.name) versions.needed
 
 -- the word of an import, and that of an export, among the version indexes
 unfoldable pub import_index : Versions → Import → ℕ

@@ -54,7 +54,9 @@ fn push_naming(
 
 /// Appends the entries that name the needed libraries.
 fn push_needs(out: &mut List<Entry>, texts: &Strings, needs: &[Name]) -> Result<(), NoMemory>
-    ensures { OnOk result (out.new ≡ out.old ++ map (λ need. tagged DT_NEEDED (string_place texts.now need)) needs.now) }
+    ensures { OnOk result
+        (out.new ≡ out.old
+        ++ map (λ need. tagged DT_NEEDED (string_place texts.now need)) needs.now) }
 {
     for need in needs {
         push_entry(out, DT_NEEDED, texts.place(need.as_bytes()) as u64)?;
@@ -145,7 +147,8 @@ pub(crate) fn entries_of(
     parts: &Parts,
     places: &Places,
 ) -> Result<List<Entry>, NoMemory>
-    ensures { IfOk result (λ entries. entries ≡ entries_of shape.now versions.now texts.now parts.now places.now) }
+    ensures { IfOk result
+        (λ entries. entries ≡ entries_of shape.now versions.now texts.now parts.now places.now) }
 {
     let mut entries = List::new(alloc);
     push_names(&mut entries, shape, texts)?;

@@ -18,7 +18,8 @@ fn chain_down(alloc: Global, count: u32) -> Result<Vec<u32>, AllocError>
     (0..count).map(|i| i.saturating_sub(1)).collect(alloc)
 }
 
-/// The System V table of so many symbols: the bucket holds the greatest index, and each symbol leads to the one before.
+/// The System V table of so many symbols: the bucket holds the greatest index, and each symbol
+/// leads to the one before.
 #[tactic(auto, unfolding(crate::specs::HashTables::made_sysv_table))]
 pub(crate) fn sysv_table(alloc: Global, count: u32) -> Result<Text, NoMemory>
     ensures { IfOk result (λ table. table ≡ made_sysv_table count) }

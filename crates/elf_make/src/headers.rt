@@ -41,7 +41,8 @@ fn push_tables(
     size: u16,
     sections: u16,
 ) -> Result<(), NoMemory>
-    ensures { OnOk result (out.new.items ≡ out.old.items ++ table_words segments place size sections) }
+    ensures { OnOk result
+        (out.new.items ≡ out.old.items ++ table_words segments place size sections) }
 {
     push_longs(out, &[0, EHDR_SIZE as u64, place])?;
     push_words(out, &[0])?;
@@ -104,7 +105,8 @@ pub(crate) fn segments_of(
     places: &Places,
     dynamic_size: u64,
 ) -> Result<List<Segment>, NoMemory>
-    ensures { IfOk result (λ segments. segments ≡ segments_of shape.now parts.now places.now dynamic_size) }
+    ensures { IfOk result
+        (λ segments. segments ≡ segments_of shape.now parts.now places.now dynamic_size) }
 {
     let mut segments = List::new(alloc);
     if shape.interp.is_some() {
@@ -154,7 +156,8 @@ pub(crate) fn push_sections(
     parts: &Parts,
     places: &Places,
 ) -> Result<(), NoMemory>
-    ensures { OnOk result (out.new.items ≡ out.old.items ++ sections_of shape.now parts.now places.now) }
+    ensures { OnOk result
+        (out.new.items ≡ out.old.items ++ sections_of shape.now parts.now places.now) }
 {
     if shape.sections {
         push_section_headers(out, places.symbols, parts.symbols.as_bytes().len() as u64)?;

@@ -1,4 +1,5 @@
-//! What is appended to the bytes of a file: numbers, the lowest byte first, and parts, filled up with zeros.
+//! What is appended to the bytes of a file: numbers, the lowest byte first, and parts, filled up
+//! with zeros.
 
 ghost use Rattle.std.specs.Prelude.{◌≡◌, ◌+◌, ◌-◌, ◌%◌, ◌++◌, OnOk, IfOk};
 ghost use Rattle.elf_make.specs.Bytes.{halves, words, longs, padded};

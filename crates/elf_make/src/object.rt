@@ -6,7 +6,7 @@ ghost use Rattle.elf_make.specs.Versions.{HasFewVersions, made_versions};
 
 use crate::dynamic_table::{dynamic_size, entries_of, push_entries};
 use crate::headers::{push_file_header, push_sections, push_segments, segments_of};
-use crate::parts::{Parts, Places, parts_begin, parts_of, places_of, push_parts};
+use crate::parts::{Parts, Places, object_parts, parts_begin, places_of, push_parts};
 use crate::shape::Shape;
 use crate::strings::strings_of;
 use crate::symbols::symbols_of;
@@ -40,8 +40,8 @@ fn file_of(
 
 /// The file of this shape, byte for byte.
 ///
-/// A shape whose sizes pass what their words in the file can say is not made, nor one of more versions
-/// than there are indexes: the answer is `NoMemory`.
+/// A shape whose sizes pass what their words in the file can say is not made, nor one of more
+/// versions than there are indexes: the answer is `NoMemory`.
 #[tactic(auto, unfolding(crate::specs::Object::made_object))]
 pub fn make_object(alloc: Global, shape: &Shape) -> Result<Text, NoMemory>
     ensures bytes { IfOk result (λ text. text ≡ made_object shape.now) }
@@ -50,7 +50,7 @@ pub fn make_object(alloc: Global, shape: &Shape) -> Result<Text, NoMemory>
     let versions = versions_of(alloc, shape)?;
     let texts = strings_of(alloc, shape, &versions)?;
     let symbols = symbols_of(alloc, shape, &texts, &versions)?;
-    let parts = parts_of(alloc, shape, &versions, &texts, symbols.as_slice())?;
+    let parts = object_parts(alloc, shape, &versions, &texts, symbols.as_slice())?;
     let places = places_of(parts_begin(shape), &parts)?;
     let entries = entries_of(alloc, shape, &versions, &texts, &parts, &places)?;
     file_of(alloc, shape, &parts, &places, entries.as_slice())

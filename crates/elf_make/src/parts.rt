@@ -58,7 +58,8 @@ fn interp_of(alloc: Global, interp: &Option<Name>) -> Result<Text, NoMemory>
 
 /// The System V hash table, where it is wanted.
 fn sysv_of(alloc: Global, shape: &Shape, symbols: &[Symbol]) -> Result<Text, NoMemory>
-    ensures { IfOk result (λ part. part ≡ wanted shape.now.sysv (made_sysv_table (length symbols.now))) }
+    ensures { IfOk result
+        (λ part. part ≡ wanted shape.now.sysv (made_sysv_table (length symbols.now))) }
 {
     if shape.sysv {
         sysv_table(alloc, count_of(symbols.len())?)
@@ -69,7 +70,10 @@ fn sysv_of(alloc: Global, shape: &Shape, symbols: &[Symbol]) -> Result<Text, NoM
 
 /// The GNU hash table, where it is wanted: it lists the symbols behind the imports without a value.
 fn gnu_of(alloc: Global, shape: &Shape, symbols: &[Symbol]) -> Result<Text, NoMemory>
-    ensures { IfOk result (λ part. part ≡ wanted shape.now.gnu (made_gnu_table (1 + length (plain_imports shape.now)) symbols.now)) }
+    ensures { IfOk result
+        (λ part. part
+        ≡ wanted shape.now.gnu
+        (made_gnu_table (1 + length (plain_imports shape.now)) symbols.now)) }
 {
     if shape.gnu {
         let plain = count_of(count_plain(shape))?;
@@ -81,7 +85,8 @@ fn gnu_of(alloc: Global, shape: &Shape, symbols: &[Symbol]) -> Result<Text, NoMe
 
 /// The version indexes, where there are versions.
 fn versym_of(alloc: Global, versions: &Versions, symbols: &[Symbol]) -> Result<Text, NoMemory>
-    ensures { IfOk result (λ part. part ≡ wanted (has_version_indexes versions.now) (version_words symbols.now)) }
+    ensures { IfOk result
+        (λ part. part ≡ wanted (has_version_indexes versions.now) (version_words symbols.now)) }
 {
     if versions.is_versioned() {
         version_indexes(alloc, symbols)
@@ -92,14 +97,15 @@ fn versym_of(alloc: Global, versions: &Versions, symbols: &[Symbol]) -> Result<T
 
 /// The parts of a file.
 #[tactic(auto, unfolding(crate::specs::Parts::made_parts))]
-pub(crate) fn parts_of(
+pub(crate) fn object_parts(
     alloc: Global,
     shape: &Shape,
     versions: &Versions,
     texts: &Strings,
     symbols: &[Symbol],
 ) -> Result<Parts, NoMemory>
-    ensures { IfOk result (λ parts. parts ≡ made_parts shape.now versions.now texts.now symbols.now) }
+    ensures { IfOk result
+        (λ parts. parts ≡ made_parts shape.now versions.now texts.now symbols.now) }
 {
     Ok(Parts {
         interp: interp_of(alloc, &shape.interp)?,

@@ -3,7 +3,7 @@
 //! System V gABI, String Table.
 
 ghost use Rattle.std.specs.Prelude.{◌≡◌, ◌+◌, fold, length, map, option_to_list, vec_items, OnOk, IfOk};
-ghost use Rattle.elf_make.specs.Texts.{with_string, texts_of, string_table, places_from, string_place};
+ghost use Rattle.elf_make.specs.Texts.{with_string, shape_texts, string_table, places_from, string_place};
 
 use crate::numbers::push_bytes;
 use crate::shape::{Export, Import, Shape};
@@ -156,9 +156,9 @@ fn add_version_names(alloc: Global, texts: &mut Texts, asks: &[Ask]) -> Result<(
 }
 
 /// The texts of the string table, in order.
-#[tactic(auto, unfolding(crate::specs::Texts::texts_of, crate::specs::Texts::mentioned))]
-fn texts_of(alloc: Global, shape: &Shape, versions: &Versions) -> Result<Texts, NoMemory>
-    ensures { IfOk result (λ texts. texts ≡ texts_of shape.now versions.now) }
+#[tactic(auto, unfolding(crate::specs::Texts::shape_texts, crate::specs::Texts::mentioned))]
+fn shape_texts(alloc: Global, shape: &Shape, versions: &Versions) -> Result<Texts, NoMemory>
+    ensures { IfOk result (λ texts. texts ≡ shape_texts shape.now versions.now) }
 {
     let mut texts = Texts::new(alloc);
     add_optional(alloc, &mut texts, &shape.soname)?;
@@ -180,8 +180,8 @@ pub(crate) fn strings_of(
     shape: &Shape,
     versions: &Versions,
 ) -> Result<Strings, NoMemory>
-    ensures { IfOk result (λ strings. strings ≡ texts_of shape.now versions.now) }
+    ensures { IfOk result (λ strings. strings ≡ shape_texts shape.now versions.now) }
 {
-    let texts = texts_of(alloc, shape, versions)?;
+    let texts = shape_texts(alloc, shape, versions)?;
     Strings::new(alloc, texts)
 }

@@ -70,7 +70,8 @@ fn export_symbol(
     index: u32,
     export: &Export,
 ) -> Result<Symbol, NoMemory>
-    ensures { IfOk result (λ symbol. symbol ≡ export_symbol texts.now versions.now index export.now) }
+    ensures { IfOk result
+        (λ symbol. symbol ≡ export_symbol texts.now versions.now index export.now) }
 {
     Ok(Symbol {
         name: texts.place(export.name.as_bytes()),
@@ -112,7 +113,9 @@ fn push_plain(
     texts: &Strings,
     versions: &Versions,
 ) -> Result<(), NoMemory>
-    ensures { OnOk result (out.new ≡ out.old ++ map (import_symbol texts.now versions.now) (plain_imports shape.now)) }
+    ensures { OnOk result
+        (out.new ≡ out.old
+        ++ map (import_symbol texts.now versions.now) (plain_imports shape.now)) }
 {
     let imports = shape.imports.as_slice();
     for import in imports {
@@ -131,7 +134,9 @@ fn push_valued(
     texts: &Strings,
     versions: &Versions,
 ) -> Result<(), NoMemory>
-    ensures { OnOk result (out.new ≡ out.old ++ map (import_symbol texts.now versions.now) (valued_imports shape.now)) }
+    ensures { OnOk result
+        (out.new ≡ out.old
+        ++ map (import_symbol texts.now versions.now) (valued_imports shape.now)) }
 {
     let imports = shape.imports.as_slice();
     for import in imports {
@@ -150,7 +155,8 @@ fn push_exports(
     texts: &Strings,
     versions: &Versions,
 ) -> Result<(), NoMemory>
-    ensures { OnOk result (out.new ≡ out.old ++ exports_from texts.now versions.now first exports.now) }
+    ensures { OnOk result
+        (out.new ≡ out.old ++ exports_from texts.now versions.now first exports.now) }
 {
     let mut index = first;
     for export in exports {

@@ -79,9 +79,10 @@ fn ask(alloc: Global, file: &str, version: &str, weak: bool) -> Result<Ask, NoMe
     })
 }
 
-/// A library with all else: two program headers at 64, the strings at 176, the symbols at 248, the System V hash table
-/// at 392, the GNU one at 432, the version indexes at 480, the definitions at 496, the needed versions at 584, the
-/// dynamic table at 632 with one spare entry, the section headers at 904.
+/// A library with all else: two program headers at 64, the strings at 176, the symbols at 248, the
+/// System V hash table at 392, the GNU one at 432, the version indexes at 480, the definitions at
+/// 496, the needed versions at 584, the dynamic table at 632 with one spare entry, the section
+/// headers at 904.
 #[rattlefmt::skip]
 fn fullest() -> [u8; 1032] {
     [
@@ -241,7 +242,8 @@ fn program_with_an_import(rt: HostRuntime) -> Result<(), Fail> {
         )?
     };
     let made = make_object(alloc, &shape)?;
-    // The size of the header table, of the interpreter, of the loaded part, the place and size of the dynamic table;
+    // The size of the header table, of the interpreter, of the loaded part, the place and size of
+    // the dynamic table;
     // then the size of the strings, the 12th entry, and the end.
     let words = [
         (96, 224),

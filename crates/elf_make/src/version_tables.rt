@@ -37,7 +37,8 @@ fn push_definitions(
     first: u16,
     names: &[Name],
 ) -> Result<(), NoMemory>
-    ensures { OnOk result (out.new.items ≡ out.old.items ++ definitions_from texts.now first names.now) }
+    ensures { OnOk result
+        (out.new.items ≡ out.old.items ++ definitions_from texts.now first names.now) }
 {
     let mut index = first;
     let mut rest = names;
@@ -117,7 +118,8 @@ fn push_need_records(
     asks: &[Ask],
     next: u32,
 ) -> Result<(), NoMemory>
-    ensures { OnOk result (out.new.items ≡ out.old.items ++ need_records texts.now first file.now asks.now next) }
+    ensures { OnOk result
+        (out.new.items ≡ out.old.items ++ need_records texts.now first file.now asks.now next) }
 {
     push_need(out, index_at(0, asks.len())?, texts.place(file), next)?;
     push_asks(out, texts, first, asks)
@@ -139,7 +141,8 @@ fn push_needs(
     first: u16,
     files: &[Name],
 ) -> Result<(), NoMemory>
-    ensures { OnOk result (out.new.items ≡ out.old.items ++ need_records_from texts.now needed.now first files.now) }
+    ensures { OnOk result
+        (out.new.items ≡ out.old.items ++ need_records_from texts.now needed.now first files.now) }
 {
     let mut index = first;
     let mut rest = files;

@@ -1,7 +1,7 @@
 //! Symbol versions: what a file defines and needs, and the index of each.
 //!
-//! Linux Standard Base, Symbol Versioning. Look-ups go through lists, which is quadratic in the number
-//! of versions, and linear in that of symbols: made files have few versions.
+//! Linux Standard Base, Symbol Versioning. Look-ups go through lists, which is quadratic in the
+//! number of versions, and linear in that of symbols: made files have few versions.
 
 ghost use Rattle.std.specs.Prelude.{bytes_eq, ◌≡◌, ◌+◌, ◌++◌, fold, filter_map, flat_map, OnOk, IfOk};
 ghost use Rattle.std.specs.Bool.{OnTrue};
@@ -59,7 +59,7 @@ fn add_ask(asks: &mut List<Ask>, ask: Ask) -> Result<(), NoMemory>
 }
 
 /// What an import asks, where it names both a file and a version.
-fn asked_by(alloc: Global, import: &Import) -> Result<Option<Ask>, NoMemory>
+fn ask_of_import(alloc: Global, import: &Import) -> Result<Option<Ask>, NoMemory>
     ensures { IfOk result (λ ask. ask ≡ ask_of_import import.now) }
 {
     match (&import.file, &import.version) {
@@ -74,10 +74,11 @@ fn asked_by(alloc: Global, import: &Import) -> Result<Option<Ask>, NoMemory>
 
 /// Adds what the imports ask.
 fn add_imports(alloc: Global, asks: &mut List<Ask>, imports: &[Import]) -> Result<(), NoMemory>
-    ensures { OnOk result (asks.new ≡ fold with_ask asks.old (filter_map ask_of_import imports.now)) }
+    ensures { OnOk result
+        (asks.new ≡ fold with_ask asks.old (filter_map ask_of_import imports.now)) }
 {
     for import in imports {
-        if let Some(ask) = asked_by(alloc, import)? {
+        if let Some(ask) = ask_of_import(alloc, import)? {
             add_ask(asks, ask)?;
         }
     }
@@ -151,7 +152,8 @@ fn push_by_file(
     files: &[Name],
     asks: &[Ask],
 ) -> Result<(), NoMemory>
-    ensures { OnOk result (out.new ≡ out.old ++ flat_map (λ file. asks_of_file file asks.now) files.now) }
+    ensures { OnOk result
+        (out.new ≡ out.old ++ flat_map (λ file. asks_of_file file asks.now) files.now) }
 {
     for file in files {
         push_asks_of(alloc, out, file.as_bytes(), asks)?;

@@ -11,7 +11,7 @@ use Rattle.std.proofs.lemmas.Str.{IsUtf8-from_is_utf8}
 use Rattle.path_text.specs.FileName.{IsFileName, IsNameByte}
 use Rattle.path_text.specs.Path.{IsNormalPath, begins_at_root, path_of}
 use Rattle.path_text.proofs.PathLemmas.{not_utf8}
-use Rattle.load_model.specs.Candidates.{At, candidate_at, candidate_in, candidates, chain, items_by, listed_candidates, listed_items, own_items, refused_text, rpath_items, search_items}
+use Rattle.load_model.specs.Candidates.{At, candidate_at, candidate_in, candidates, loader_chain, items_by, listed_candidates, listed_items, own_items, refused_text, rpath_items, search_items}
 use Rattle.load_model.specs.Joined.{joined}
 use Rattle.load_model.specs.LoadList.{Object, Request}
 use Rattle.load_model.specs.RunPaths.{Folder}
@@ -59,7 +59,7 @@ module _ (setting : Setting) where
   no_own objs loader j None all h = refl
   no_own objs loader j (Some o) all h =
       ap (items_by setting objs loader j o) (h o refl).runpath
-      ∙ flat_nil (λ k. rpath_items setting (slice_get objs k)) (chain (length objs) loader j) (λ k. no_rpath (slice_get objs k) (λ x g. all k x g))
+      ∙ flat_nil (λ k. rpath_items setting (slice_get objs k)) (loader_chain (length objs) loader j) (λ k. no_rpath (slice_get objs k) (λ x g. all k x g))
 
   pub only_listed : (objs : List Object) (loader : ℕ → ℕ) (r : Request) → ((k : ℕ) (x : Object) → slice_get objs k ≡ Some x → HasNoRunPath x) → IsFileName r.name → candidates setting objs loader r ≡ listed_candidates setting r.name
   unfolding candidates search_items listed_candidates

@@ -70,7 +70,8 @@ abbrev pub bound_by : List Face → Run → ℕ → ℕ → Class → Option Sym
 bound_by faces run j i class None = None
 bound_by faces run j i class (Some s) =
     cond (binds_itself class s) (Some (record { obj = j; sym = i }))
-    (first_offer faces run (looked_in class (scope_of faces run j)) s.name (wanted_version s.version) class)
+    (first_offer faces run (looked_in class (scope_of faces run j)) s.name
+    (wanted_version s.version) class)
 
 -- What the reference of this class binds to, the symbol of this index of the object of this number.
 unfoldable pub bound_to : List Face → Run → ℕ → ℕ → Class → Option Def

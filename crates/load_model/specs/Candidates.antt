@@ -21,9 +21,9 @@ loader_in (a ∷ log) j = cond (a.target == j) a.request.by (loader_in log j)
 
 -- An object, its loader, that one's loader and so on, up to the program. `loader` gives the loader
 -- of each, and `most` bounds their number.
-unfoldable pub chain : ℕ → (ℕ → ℕ) → ℕ → List ℕ
-chain zero loader j = j ∷ []
-chain (suc most) loader j = cond (j == 0) (0 ∷ []) (j ∷ chain most loader (loader j))
+unfoldable pub loader_chain : ℕ → (ℕ → ℕ) → ℕ → List ℕ
+loader_chain zero loader j = j ∷ []
+loader_chain (suc most) loader j = cond (j == 0) (0 ∷ []) (j ∷ loader_chain most loader (loader j))
 
 -- The items of a run path of an object, where it has one; `$ORIGIN` is the folder of the path under
 -- which it was found.
@@ -43,12 +43,12 @@ abbrev pub rpath_items : Setting → Option Object → List Item
 rpath_items setting None = []
 rpath_items setting (Some o) = rpath_by setting o o.face.runpath
 
--- Where an object without RUNPATH looks first: the RPATH of each object of its chain.
+-- Where an object without RUNPATH looks first: the RPATH of each object of its chain of loaders.
 abbrev pub chain_items : Setting → List Object → (ℕ → ℕ) → ℕ → List Item
 chain_items setting objs loader j =
-    flat_map (λ k. rpath_items setting (slice_get objs k)) (chain (length objs) loader j)
+    flat_map (λ k. rpath_items setting (slice_get objs k)) (loader_chain (length objs) loader j)
 
--- An object looks in its RUNPATH, or where it has none in the RPATH along its chain.
+-- An object looks in its RUNPATH, or where it has none in the RPATH along its chain of loaders.
 abbrev pub items_by : Setting → List Object → (ℕ → ℕ) → ℕ → Object → Option (List ℕ) → List Item
 items_by setting objs loader j o None = chain_items setting objs loader j
 items_by setting objs loader j o (Some runpath) = runpath_items setting o
@@ -84,7 +84,8 @@ candidate_in name (Relative item) = Refused (RelativeItem item) ∷ []
 -- A name with a leading slash has the one candidate that it spells.
 unfoldable pub candidates : Setting → List Object → (ℕ → ℕ) → Request → List Candidate
 candidates setting objs loader r =
-    cond (begins_at_root r.name) (candidate_at (path_of r.name)) (flat_map (candidate_in r.name) (search_items setting objs loader r.by))
+    cond (begins_at_root r.name) (candidate_at (path_of r.name))
+    (flat_map (candidate_in r.name) (search_items setting objs loader r.by))
 
 -- The candidates of a name in the listed directories alone.
 unfoldable pub listed_candidates : Setting → List ℕ → List Candidate
@@ -136,7 +137,8 @@ module _ (read : List ℕ → Result Face Flaw) (setting : Setting) (world : Wor
 
   unfoldable pub path_search : List Object → List Asked → Request → Result Object LoadRefusal
   path_search objs log r =
-      first_found (MissingLibrary r.name (asker_path objs r)) (candidates setting objs (loader_in log) r)
+      first_found (MissingLibrary r.name (asker_path objs r))
+      (candidates setting objs (loader_in log) r)
 
   -- The paths that a search opens: each candidate of a kind other than Absent, up to the one that
   -- decides.
@@ -169,7 +171,8 @@ module _ (read : List ℕ → Result Face Flaw) (setting : Setting) (world : Wor
     pub asked : Asked
     pub stands : slice_get run.log number ≡ Some asked
     pub place : ℕ
-    pub opened : slice_get (opened_for (take (count_after (take number run.log)) run.objs) (take number run.log) asked.request) place ≡ Some path
+    pub opened : slice_get (opened_for (take (count_after (take number run.log)) run.objs) (take
+        number run.log) asked.request) place ≡ Some path
 
   -- The path is the program's, or the search for one of the requests opens it.
   abbrev pub IsOpenedIn : List ℕ → Loaded → List ℕ → Type 0

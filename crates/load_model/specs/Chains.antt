@@ -6,7 +6,8 @@ use Rattle.load_model.specs.LoadList.{Object, Asked}
 use Rattle.load_model.specs.declared.setting.Setting.{Setting}
 
 abbrev pub object_with : List ℕ → Option (List ℕ) → Option (List ℕ) → Object
-object_with path rpath runpath = record { path = path; id = path; face = record (plain_face rpath []) { runpath = runpath } }
+object_with path rpath runpath =
+    record { path = path; id = path; face = record (plain_face rpath []) { runpath = runpath } }
 
 -- 1 has an RPATH, 2 no run path, 3 an RPATH that does not count beside its RUNPATH, and 4 an RPATH.
 abbrev pub chained : List Object
@@ -26,4 +27,5 @@ chain_log =
     ∷ asked_for 4 (codes "b") 2 ∷ []
 
 abbrev pub chain_setting : Setting
-chain_setting = record { machine = EM_X86_64; dirs = codes "/lib" ∷ []; lib = None; platform = None }
+chain_setting =
+    record { machine = EM_X86_64; dirs = codes "/lib" ∷ []; lib = None; platform = None }

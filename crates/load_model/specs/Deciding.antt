@@ -16,15 +16,17 @@ module _ (read : List ℕ → Result Face Flaw) (setting : Setting) (world : Wor
 
   -- It passes over so many candidates at the front.
   abbrev pub ArePassedOver : List Candidate → ℕ → Type 0
-  ArePassedOver cs number = (i : ℕ) (c : Candidate) → i < number → slice_get cs i ≡ Some c → IsPassedOver c
+  ArePassedOver cs number =
+      (i : ℕ) (c : Candidate) → i < number → slice_get cs i ≡ Some c → IsPassedOver c
 
   -- The first candidate that decides, and what it decides.
-  pub record IsFirstDeciding (cs : List Candidate) (decided : Result Object LoadRefusal) : Type 0 where
-    pub number : ℕ
-    pub candidate : Candidate
-    pub stands : slice_get cs number ≡ Some candidate
-    pub decides : decision read setting world candidate ≡ Some decided
-    pub before : ArePassedOver cs number
+  pub record IsFirstDeciding (cs : List Candidate) (decided : Result Object LoadRefusal) : Type 0
+    where
+      pub number : ℕ
+      pub candidate : Candidate
+      pub stands : slice_get cs number ≡ Some candidate
+      pub decides : decision read setting world candidate ≡ Some decided
+      pub before : ArePassedOver cs number
 
   -- The path is a candidate where something lies, and no candidate before it decides.
   pub record IsUpToDeciding (cs : List Candidate) (path : List ℕ) : Type 0 where
@@ -34,7 +36,8 @@ module _ (read : List ℕ → Result Face Flaw) (setting : Setting) (world : Wor
     pub before : ArePassedOver cs number
 
   -- The request is searched for, and its search opens the path.
-  pub record IsSearched (objs : List Object) (log : List Asked) (r : Request) (path : List ℕ) : Type 0 where
+  pub record IsSearched (objs : List Object) (log : List Asked) (r : Request) (path : List ℕ) : Type
+      0 where
     pub not_refused : refused_text objs r ≡ None
     pub unknown : first_place (is_known log r.name) 0 objs ≡ None
     pub reached : IsUpToDeciding (candidates setting objs (loader_in log) r) path
@@ -44,4 +47,5 @@ module _ (read : List ℕ → Result Face Flaw) (setting : Setting) (world : Wor
     pub number : ℕ
     pub asked : Asked
     pub stands : slice_get run.log number ≡ Some asked
-    pub searched : IsSearched (take (count_after (take number run.log)) run.objs) (take number run.log) asked.request path
+    pub searched : IsSearched (take (count_after (take number run.log)) run.objs)
+        (take number run.log) asked.request path

@@ -1,5 +1,5 @@
--- A small world: a program needs a and b, both of these need c, and c needs a; the program opens d, which needs b. The
--- RPATH of the program has a and c, and a listed directory b and d.
+-- A small world: a program needs a and b, both of these need c, and c needs a; the program opens d,
+-- which needs b. The RPATH of the program has a and c, and a listed directory b and d.
 use Rattle.std.specs.Prelude.{ℕ, List, [], ◌∷◌, ◌++◌, false, cond, Option, Some, None, Result, Ok, Err, codes}
 use Rattle.std.specs.Str.{bytes_eq}
 use Rattle.byte_view.specs.declared.constants.TheConstants.{EM_X86_64}
@@ -35,13 +35,15 @@ read_number bytes =
     cond (bytes_eq bytes (0 ∷ [])) (Ok program_face)
     (cond (bytes_eq bytes (1 ∷ [])) (Ok (plain_face None (codes "a" ∷ [])))
     (cond (bytes_eq bytes (2 ∷ [])) (Ok (plain_face None (codes "b" ∷ [])))
-    (cond (bytes_eq bytes (3 ∷ [])) (Ok (plain_face None (codes "c" ∷ []))) (Err (record { code = NOT_ELF; a = 0; b = 0 })))))
+    (cond (bytes_eq bytes (3 ∷ [])) (Ok (plain_face None (codes "c" ∷ [])))
+    (Err (record { code = NOT_ELF; a = 0; b = 0 })))))
 
 abbrev pub file_in : List ℕ → List ℕ → ℕ → WorldFile
 file_in dir name number = record { path = dir ++ 47 ∷ name; id = name; bytes = number ∷ [] }
 
 abbrev pub diamond_setting : Setting
-diamond_setting = record { machine = EM_X86_64; dirs = codes "/lib" ∷ []; lib = None; platform = None }
+diamond_setting =
+    record { machine = EM_X86_64; dirs = codes "/lib" ∷ []; lib = None; platform = None }
 
 abbrev pub program_path : List ℕ
 program_path = codes "/app/bin/app"
@@ -61,7 +63,8 @@ abbrev pub diamond_program : Object
 diamond_program = record { path = program_path; id = codes "app"; face = program_face }
 
 abbrev pub library : List ℕ → List ℕ → List ℕ → Object
-library dir name need = record { path = dir ++ 47 ∷ name; id = name; face = plain_face None (need ∷ []) }
+library dir name need =
+    record { path = dir ++ 47 ∷ name; id = name; face = plain_face None (need ∷ []) }
 
 abbrev pub asked_for : ℕ → List ℕ → ℕ → Asked
 asked_for by name target = record { request = record { by = by; name = name }; target = target }

@@ -13,7 +13,9 @@ is_plain byte = nat_le 0x21 byte && (nat_le byte 0x7e && not (byte == 0x5c))
 
 -- the byte, or `\xHH`
 abbrev pub escaped_byte : ℕ → List ℕ
-escaped_byte byte = cond (is_plain byte) (byte ∷ []) (0x5c ∷ 120 ∷ hex_digit (byte / 16) ∷ hex_digit (byte % 16) ∷ [])
+escaped_byte byte =
+    cond (is_plain byte) (byte ∷ [])
+    (0x5c ∷ 120 ∷ hex_digit (byte / 16) ∷ hex_digit (byte % 16) ∷ [])
 
 -- an empty text is `\e`, and the text `-` is `\x2d`
 abbrev pub escaped : List ℕ → List ℕ
@@ -21,7 +23,8 @@ escaped bytes =
     cond (bytes_eq bytes []) (0x5c ∷ 101 ∷ [])
     (cond (bytes_eq bytes (45 ∷ [])) (0x5c ∷ 120 ∷ 50 ∷ 100 ∷ []) (flat_map escaped_byte bytes))
 
--- a text that can stand as a field of a line: printed characters alone, and not the `-` that stands for nothing
+-- a text that can stand as a field of a line: printed characters alone, and not the `-` that stands
+-- for nothing
 pub record IsField (text : List ℕ) : Type 0 where
   pub some : text ≢ []
   pub printed : All (λ c. (0x21 ≤ c) × (c ≤ 0x7e)) text

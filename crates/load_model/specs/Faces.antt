@@ -23,7 +23,8 @@ use Rattle.load_model.specs.declared.symbols.RawSym.{RawSym}
 use Rattle.load_model.specs.declared.symbols.Sym.{Sym}
 use Rattle.load_model.specs.declared.symbols.Ver.{Ver}
 
--- the interpreter's path: the bytes of the first INTERP before the first zero byte, or all of them (System V gABI, Program Interpreter)
+-- the interpreter's path: the bytes of the first INTERP before the first zero byte, or all of them
+-- (System V gABI, Program Interpreter)
 abbrev pub is_zero : ℕ → Bool
 is_zero c = c == 0
 
@@ -33,12 +34,14 @@ path_in file s = before_first is_zero (take s.filesz (drop s.offset file))
 unfoldable pub interp_of : List ℕ → Option (List ℕ)
 interp_of file = option_map (path_in file) (find is_interp (headers file))
 
--- the texts that entries of the dynamic table name: one, and all of a tag in order (System V gABI, Dynamic Section)
+-- the texts that entries of the dynamic table name: one, and all of a tag in order (System V gABI,
+-- Dynamic Section)
 unfoldable pub named_text : List ℕ → ℕ → Option (List ℕ)
 named_text file tag = option_map (text_of file) (dynamic_value file tag)
 
 abbrev pub needs_among : List ℕ → List Entry → List (List ℕ)
-needs_among file entries = map (λ e. text_of file e.value) (filter (λ e. e.tag == DT_NEEDED) entries)
+needs_among file entries =
+    map (λ e. text_of file e.value) (filter (λ e. e.tag == DT_NEEDED) entries)
 
 unfoldable pub needs_of : List ℕ → List (List ℕ)
 needs_of file = needs_among file (dynamic_entries file)
@@ -68,7 +71,8 @@ sym_of file s version hidden = record {
 }
 
 abbrev pub sym_at : List ℕ → ℕ × RawSym → Sym
-sym_at file numbered = sym_of file numbered.1 (version_of file numbered.0) (is_hidden file numbered.0)
+sym_at file numbered =
+    sym_of file numbered.1 (version_of file numbered.0) (is_hidden file numbered.0)
 
 unfoldable pub syms_of : List ℕ → List Sym
 syms_of file = map (sym_at file) (enumerate_from 0 (symbols_of file))
@@ -95,17 +99,20 @@ is_no_text file at = not (is_utf8 (text_of file at))
 
 -- the first of the entries with a tag
 abbrev pub bad_place : List ℕ → ℕ → List Entry → Option ℕ
-bad_place file tag entries = option_map (λ e. e.value) (find (λ e. (e.tag == tag) && is_no_text file e.value) entries)
+bad_place file tag entries =
+    option_map (λ e. e.value) (find (λ e. (e.tag == tag) && is_no_text file e.value) entries)
 
 abbrev pub bad_text_of : List ℕ → ℕ → Option Flaw
 bad_text_of file tag = flaw_at BAD_NAME (bad_place file tag (dynamic_entries file))
 
 -- a need of which a version is asked, and whose file is no text; the first such file
 abbrev pub names_no_text : List ℕ → ℕ → Bool
-names_no_text file verneed = not (vn_cnt file verneed == 0) && is_no_text file (vn_file file verneed)
+names_no_text file verneed =
+    not (vn_cnt file verneed == 0) && is_no_text file (vn_file file verneed)
 
 abbrev pub bad_version_file : List ℕ → Option Flaw
-bad_version_file file = flaw_at BAD_NAME (option_map (vn_file file) (find (names_no_text file) (verneeds file)))
+bad_version_file file =
+    flaw_at BAD_NAME (option_map (vn_file file) (find (names_no_text file) (verneeds file)))
 
 -- or the interpreter's path, by its place in the file
 abbrev pub bad_path_in : List ℕ → Option Segment → Option Flaw
@@ -117,12 +124,14 @@ bad_interp file = bad_path_in file (find is_interp (headers file))
 
 unfoldable pub name_flaw : List ℕ → Option Flaw
 name_flaw file =
-    first_some (bad_text_of file DT_NEEDED ∷ bad_text_of file DT_SONAME ∷ bad_text_of file DT_RPATH ∷ bad_text_of file DT_RUNPATH ∷ bad_version_file file ∷ bad_interp file ∷ [])
+    first_some (bad_text_of file DT_NEEDED ∷ bad_text_of file DT_SONAME ∷ bad_text_of file DT_RPATH
+    ∷ bad_text_of file DT_RUNPATH ∷ bad_version_file file ∷ bad_interp file ∷ [])
 
 -- the first flaw of a file: headers, dynamic table, symbols, versions, names
 unfoldable pub first_flaw : List ℕ → Option Flaw
 first_flaw file =
-    first_some (header_flaw file ∷ dynamic_flaw file ∷ symbol_flaw file ∷ version_flaw (symbol_count file) file ∷ name_flaw file ∷ [])
+    first_some (header_flaw file ∷ dynamic_flaw file ∷ symbol_flaw file ∷ version_flaw (symbol_count
+    file) file ∷ name_flaw file ∷ [])
 
 -- the face of a file that has no flaw, or its first flaw
 abbrev pub face_unless : Option Flaw → Face → Result Face Flaw

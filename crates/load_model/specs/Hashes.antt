@@ -3,7 +3,8 @@ use Rattle.std.specs.Prelude.{ℕ, ◌+◌, ◌-◌, ◌*◌, ◌/◌, ◌%◌, 
 
 -- the high four bits are mixed into the low ones, and taken off
 abbrev pub sysv_mixed : ℕ → ℕ
-sysv_mixed h = bit_and (bit_xor h (bit_and h 4026531840 / 2 ^ 24)) (4294967295 - bit_and h 4026531840)
+sysv_mixed h =
+    bit_and (bit_xor h (bit_and h 4026531840 / 2 ^ 24)) (4294967295 - bit_and h 4026531840)
 
 unfoldable pub sysv_step : ℕ → ℕ → ℕ
 sysv_step h c = sysv_mixed ((16 * h + c) % 2 ^ 32)

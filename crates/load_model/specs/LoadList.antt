@@ -91,12 +91,14 @@ module _ {X : Type 0} (answer : List Object → List Asked → Request → Resul
 
   -- a part of a phase: what was loaded stays in front; the requests were asked in order up to those
   -- that are left; each object is a target
-  pub record IsPart (before : Loaded) (opening : List (List ℕ)) (at : Loaded) (left : List Request) : Type 0 where
+  pub record IsPart (before : Loaded) (opening : List (List ℕ)) (at : Loaded)
+      (left : List Request) : Type 0 where
     pub objs : take (length before.objs) at.objs ≡ before.objs
     pub more : List Asked
     pub log : at.log ≡ before.log ++ more
     pub asked : map (λ a. a.request) more ++ left ≡ requests_of opening (length before.objs) at.objs
-    pub answered : (m : ℕ) (a : Asked) → slice_get more m ≡ Some a → IsAnswered at.objs (before.log ++ take m more) a
+    pub answered : (m : ℕ) (a : Asked) → slice_get more m ≡ Some a
+        → IsAnswered at.objs (before.log ++ take m more) a
     pub whole : count_after at.log ≡ length at.objs
 
   -- a whole phase: no request is left
@@ -104,11 +106,12 @@ module _ {X : Type 0} (answer : List Object → List Asked → Request → Resul
   IsPhase before opening after = IsPart before opening after []
 
   -- the phase stops: the next request has no target
-  pub record IsStop (before : Loaded) (opening : List (List ℕ)) (at : Loaded) (stop : X) : Type 0 where
-    pub next : Request
-    pub left : List Request
-    pub part : IsPart before opening at (next ∷ left)
-    pub stops : answer at.objs at.log next ≡ Err stop
+  pub record IsStop (before : Loaded) (opening : List (List ℕ)) (at : Loaded) (stop : X) : Type 0
+    where
+      pub next : Request
+      pub left : List Request
+      pub part : IsPart before opening at (next ∷ left)
+      pub stops : answer at.objs at.log next ≡ Err stop
 
   -- a run: the program alone, then the phase of its needs, and then one for each opened name
   abbrev pub IsRunFrom : Loaded → List (List (List ℕ)) → Loaded → Type 0
@@ -137,7 +140,8 @@ module _ {X : Type 0} (answer : List Object → List Asked → Request → Resul
   abbrev pub IsStopFrom : Loaded → List (List (List ℕ)) → X → Type 0
   IsStopFrom before [] stop = ⊥
   IsStopFrom before (opening ∷ openings) stop =
-      ((at : Loaded) × IsStop before opening at stop) ⊎ ((mid : Loaded) × IsPhase before opening mid × IsStopFrom mid openings stop)
+      ((at : Loaded) × IsStop before opening at stop)
+      ⊎ ((mid : Loaded) × IsPhase before opening mid × IsStopFrom mid openings stop)
 
   abbrev pub IsStoppedRun : Object → List (List ℕ) → X → Type 0
   IsStoppedRun program opens stop =
@@ -185,8 +189,10 @@ module _ {X : Type 0} (answer : List Object → List Asked → Request → Resul
 
   -- an answer names an object that is there, and brings none past the limit
   pub record IsSound (limit : ℕ) : Type 0 where
-    pub known : (objs : List Object) (log : List Asked) (r : Request) (i : ℕ) → answer objs log r ≡ Ok (Known i) → i < length objs
-    pub brought : (objs : List Object) (log : List Asked) (r : Request) (o : Object) → answer objs log r ≡ Ok (Brought o) → length objs < limit
+    pub known : (objs : List Object) (log : List Asked) (r : Request) (i : ℕ)
+        → answer objs log r ≡ Ok (Known i) → i < length objs
+    pub brought : (objs : List Object) (log : List Asked) (r : Request) (o : Object)
+        → answer objs log r ≡ Ok (Brought o) → length objs < limit
 
 -- the numbers, and then each further number, at its first occurrence
 unfoldable pub with_numbers : List ℕ → List ℕ → List ℕ
@@ -241,17 +247,24 @@ module _ {X : Type 0} (too_many : X) (limit : ℕ) (search : Search X) where
 
 -- each request goes to an object, not the program, of which it is the key
 pub record GoesByKey (key : Object → List ℕ) (objs : List Object) (log : List Asked) : Type 0 where
-  pub by_key : (m : ℕ) (a : Asked) → slice_get log m ≡ Some a → (o : Object) × (slice_get objs a.target ≡ Some o) × (0 < a.target) × (key o ≡ a.request.name)
+  pub by_key : (m : ℕ) (a : Asked) → slice_get log m ≡ Some a
+      → (o : Object) × (slice_get objs a.target ≡ Some o) × (0 < a.target)
+      × (key o ≡ a.request.name)
 
 -- what a file of another world has in common with an object: the needs, no other soname than its
 -- key, and its key finds it
-pub record IsAlike {X : Type 0} (search : Search X) (before : List Object) (key : List ℕ) (o there : Object) : Type 0 where
+pub record IsAlike {X : Type 0} (search : Search X) (before : List Object) (key : List ℕ)
+    (o there : Object) : Type 0 where
   pub needs : there.face.needs ≡ o.face.needs
   pub soname : (s : List ℕ) → there.face.soname ≡ Some s → s ≡ key
   pub found : (log : List Asked) (r : Request) → r.name ≡ key → search before log r ≡ Ok there
 
-pub record AreAlike {X : Type 0} (search : Search X) (key : Object → List ℕ) (objs objs_there : List Object) : Type 0 where
+pub record AreAlike {X : Type 0} (search : Search X) (key : Object → List ℕ)
+    (objs objs_there : List Object) : Type 0 where
   pub count : length objs_there ≡ length objs
-  pub program : (o there : Object) → slice_get objs 0 ≡ Some o → slice_get objs_there 0 ≡ Some there → (there.face.needs ≡ o.face.needs) × (there.face.soname ≡ None)
-  pub others : (j : ℕ) (o there : Object) → 0 < j → slice_get objs j ≡ Some o → slice_get objs_there j ≡ Some there → IsAlike search (take j objs_there) (key o) o there
-  pub ids : (i j : ℕ) (x y : Object) → slice_get objs_there i ≡ Some x → slice_get objs_there j ≡ Some y → bytes_eq x.id y.id ≡ true → i ≡ j
+  pub program : (o there : Object) → slice_get objs 0 ≡ Some o → slice_get objs_there 0 ≡ Some there
+      → (there.face.needs ≡ o.face.needs) × (there.face.soname ≡ None)
+  pub others : (j : ℕ) (o there : Object) → 0 < j → slice_get objs j ≡ Some o
+      → slice_get objs_there j ≡ Some there → IsAlike search (take j objs_there) (key o) o there
+  pub ids : (i j : ℕ) (x y : Object) → slice_get objs_there i ≡ Some x
+      → slice_get objs_there j ≡ Some y → bytes_eq x.id y.id ≡ true → i ≡ j

@@ -33,7 +33,8 @@ module _ (read : List ℕ → Result Face Flaw) (setting : Setting) (world : Wor
 
   -- The objects and requests are the load list of the program at the path, with these states at the
   -- ends of its phases.
-  pub record IsLoadList (path : List ℕ) (opens : List (List ℕ)) (loaded : Loaded) (ends : List Loaded) : Type 0 where
+  pub record IsLoadList (path : List ℕ) (opens : List (List ℕ)) (loaded : Loaded)
+      (ends : List Loaded) : Type 0 where
     pub program : Object
     pub starts : program_at path ≡ Ok program
     pub run : IsEndedRun (goes_to path) program opens loaded ends

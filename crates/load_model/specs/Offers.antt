@@ -1,4 +1,5 @@
--- What an object offers to a reference: the least index of a symbol that the rule accepts (docs/LOADER.md, Offers)
+-- What an object offers to a reference: the least index of a symbol that the rule accepts
+-- (docs/LOADER.md, Offers)
 use Rattle.std.specs.Prelude.{ℕ, ◌==◌, ◌&&◌, ◌||◌, Bool, true, false, cond, not, List, Option, Some, None, length, drop, filter}
 use Rattle.std.specs.List.{list_any, position_from}
 use Rattle.std.specs.Str.{bytes_eq}
@@ -35,7 +36,8 @@ has_version wanted Local = false
 has_version wanted Global = false
 has_version wanted (Named index name) = bytes_eq name wanted
 
--- a call goes to a definition alone; a plain reference and a copy take an undefined symbol with a value too
+-- a call goes to a definition alone; a plain reference and a copy take an undefined symbol with a
+-- value too
 abbrev pub suits : Class → Bool → Bool
 suits Plain defined = true
 suits Call defined = defined
@@ -64,12 +66,15 @@ is_shown name class s = is_candidate name class s && not s.hidden
 abbrev pub is_one : (Sym → Bool) → List Sym → Bool
 is_one test syms = length (filter test syms) == 1
 
--- whether a symbol of these is accepted: by whether there is a version table, and by the version that is asked for
+-- whether a symbol of these is accepted: by whether there is a version table, and by the version
+-- that is asked for
 abbrev pub is_accepted : List Sym → List ℕ → Class → Bool → Option (List ℕ) → Sym → Bool
 is_accepted syms name class false version s = is_candidate name class s
-is_accepted syms name class true (Some wanted) s = is_candidate name class s && has_wanted_version wanted s
+is_accepted syms name class true (Some wanted) s =
+    is_candidate name class s && has_wanted_version wanted s
 is_accepted syms name class true None s =
-    cond (list_any (is_early name class) syms) (is_early name class s) (is_shown name class s && is_one (is_shown name class) syms)
+    cond (list_any (is_early name class) syms) (is_early name class s)
+    (is_shown name class s && is_one (is_shown name class) syms)
 
 -- the symbol of index 0 is none (System V gABI, Symbol Table)
 abbrev pub real_syms : List Sym → List Sym
@@ -78,4 +83,5 @@ real_syms syms = drop 1 syms
 -- the accepted symbol of the least index
 unfoldable pub offer_of : Offered → List ℕ → Option (List ℕ) → Class → Option ℕ
 offer_of o name version class =
-    position_from (is_accepted (real_syms o.syms) name class o.versioned version) 1 (real_syms o.syms)
+    position_from (is_accepted (real_syms o.syms) name class o.versioned version) 1
+    (real_syms o.syms)

@@ -42,17 +42,19 @@ abbrev pub IsPlace : OpenerView → ℕ → Type 0
 IsPlace view place = place < length view.faces
 
 -- The path is an object of this identity, and its face stands at this place.
-pub record IsObjectAt (view : OpenerView) (world : World) (path id : List ℕ) (place : ℕ) : Type 0 where
-  pub file : WorldFile
-  pub face : Face
-  pub kind : kind_in view world path ≡ Object file face
-  pub id_is : id ≡ file.id
-  pub stands : slice_get view.faces place ≡ Some face
+pub record IsObjectAt (view : OpenerView) (world : World) (path id : List ℕ) (place : ℕ) : Type 0
+  where
+    pub file : WorldFile
+    pub face : Face
+    pub kind : kind_in view world path ≡ Object file face
+    pub id_is : id ≡ file.id
+    pub stands : slice_get view.faces place ≡ Some face
 
 -- The path is a damaged file with this flaw.
-pub record IsDamagedAt (view : OpenerView) (world : World) (path : List ℕ) (flaw : Flaw) : Type 0 where
-  pub file : WorldFile
-  pub kind : kind_in view world path ≡ Damaged file flaw
+pub record IsDamagedAt (view : OpenerView) (world : World) (path : List ℕ) (flaw : Flaw) : Type 0
+  where
+    pub file : WorldFile
+    pub kind : kind_in view world path ≡ Damaged file flaw
 
 -- What is answered of a path, by its kind where the opener tells its world.
 abbrev pub IsOpened : OpenerView → OpenerView → List ℕ → Result Opened OpenFault → Type 0

@@ -21,23 +21,26 @@ abbrev pub refusal_by : Unmet → List ℕ → Ask → LoadRefusal
 refusal_by FileUnloaded path ask = VersionFileUnloaded path ask.file
 refusal_by VersionLacking path ask = UnsatisfiedVersion path ask.file ask.name
 
-pub record IsRefusedAsk (faces : List Face) (run : Run) (u : UnmetAsk) (stop : LoadRefusal) : Type 0 where
-  pub asker : Obj
-  pub stands : slice_get run.objs u.obj ≡ Some asker
-  pub ask : Ask
-  pub asked : slice_get (asks_in (face_at faces run u.obj)) u.ask ≡ Some ask
-  pub refusal : stop ≡ refusal_by u.why asker.path ask
+pub record IsRefusedAsk (faces : List Face) (run : Run) (u : UnmetAsk) (stop : LoadRefusal) : Type 0
+  where
+    pub asker : Obj
+    pub stands : slice_get run.objs u.obj ≡ Some asker
+    pub ask : Ask
+    pub asked : slice_get (asks_in (face_at faces run u.obj)) u.ask ≡ Some ask
+    pub refusal : stop ≡ refusal_by u.why asker.path ask
 
 module _ (read : List ℕ → Result Face Flaw) (setting : Setting) (world : World) where
   -- The program at the path has this load list over these faces.
-  pub record Loads (faces : List Face) (path : List ℕ) (opens : List (List ℕ)) (run : Run) : Type 0 where
-    pub loaded : Loaded
-    pub ends : List Loaded
-    pub list : IsLoadList read setting world path opens loaded ends
-    pub run_is : IsRunOf faces opens loaded ends run
+  pub record Loads (faces : List Face) (path : List ℕ) (opens : List (List ℕ)) (run : Run) : Type 0
+    where
+      pub loaded : Loaded
+      pub ends : List Loaded
+      pub list : IsLoadList read setting world path opens loaded ends
+      pub run_is : IsRunOf faces opens loaded ends run
 
   -- Its versions are met, and these are the bindings of all references.
-  pub record IsReplay (faces : List Face) (path : List ℕ) (opens : List (List ℕ)) (replay : Replay) : Type 0 where
+  pub record IsReplay (faces : List Face) (path : List ℕ) (opens : List (List ℕ))
+      (replay : Replay) : Type 0 where
     pub loads : Loads faces path opens replay.run
     pub met : first_unmet faces replay.run ≡ None
     pub binds : replay.binds ≡ all_binds faces replay.run

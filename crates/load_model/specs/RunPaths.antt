@@ -99,7 +99,8 @@ pub data Item : Type 0 where
 abbrev pub item_of : Setting → List ℕ → List ℕ → Item
 item_of setting folder item =
     cond (list_any (is_unset setting folder) (parts_of_item item)) (Unset item)
-    (cond (begins_at_root (expanded setting folder item)) (Folder (expanded setting folder item)) (Relative item))
+    (cond (begins_at_root (expanded setting folder item)) (Folder (expanded setting folder item))
+    (Relative item))
 
 -- The items of a run path: the texts between colons that are not empty, as the setting and the
 -- holder's folder expand them.

@@ -17,7 +17,9 @@ face_at faces run j = option_and_then (λ o. slice_get faces o.face) (slice_get 
 -- These are the objects over a table of faces, with what a loader sees of each.
 pub record AreObjects (faces : List Face) (objs : List Obj) (objects : List Object) : Type 0 where
   pub count : length objects ≡ length objs
-  pub each : (j : ℕ) (x : Obj) (o : Object) → slice_get objs j ≡ Some x → slice_get objects j ≡ Some o → (o.path ≡ x.path) × (o.id ≡ x.id) × (slice_get faces x.face ≡ Some o.face)
+  pub each : (j : ℕ) (x : Obj) (o : Object) → slice_get objs j ≡ Some x
+      → slice_get objects j ≡ Some o → (o.path ≡ x.path) × (o.id ≡ x.id)
+      × (slice_get faces x.face ≡ Some o.face)
 
 -- The loader of an object of this number.
 abbrev pub loader_by : List Obj → ℕ → ℕ
@@ -41,7 +43,8 @@ pub record IsRunOver (faces : List Face) (run : Run) : Type 0 where
   pub objs : All (IsObjOver faces run) run.objs
   pub global : run.global ≤ length run.objs
   pub lists : length run.targets ≡ length run.objs
-  pub counts : (j : ℕ) (face : Face) (ts : List ℕ) → face_at faces run j ≡ Some face → slice_get run.targets j ≡ Some ts → length ts ≡ length face.needs
+  pub counts : (j : ℕ) (face : Face) (ts : List ℕ) → face_at faces run j ≡ Some face
+      → slice_get run.targets j ≡ Some ts → length ts ≡ length face.needs
   pub targets : All (AreBelow (length run.objs)) run.targets
   pub root_count : length run.roots ≡ length run.opens
   pub roots : AreBelow (length run.objs) run.roots
@@ -91,7 +94,8 @@ start_count [] = 0
 start_count (end ∷ ends) = length end.objs
 
 -- The object of this number, as the load list has it.
-pub record IsObjOf (faces : List Face) (loaded : Loaded) (ends : List Loaded) (j : ℕ) (x : Obj) : Type 0 where
+pub record IsObjOf (faces : List Face) (loaded : Loaded) (ends : List Loaded) (j : ℕ) (x : Obj) :
+    Type 0 where
   pub object : Object
   pub stands : slice_get loaded.objs j ≡ Some object
   pub path : x.path ≡ object.path
@@ -101,7 +105,8 @@ pub record IsObjOf (faces : List Face) (loaded : Loaded) (ends : List Loaded) (j
   pub phase : x.phase ≡ phase_of ends j
 
 -- The run says this load list, whose phases end so, with these opened names.
-pub record IsRunOf (faces : List Face) (opens : List (List ℕ)) (loaded : Loaded) (ends : List Loaded) (run : Run) : Type 0 where
+pub record IsRunOf (faces : List Face) (opens : List (List ℕ)) (loaded : Loaded)
+    (ends : List Loaded) (run : Run) : Type 0 where
   pub count : length run.objs ≡ length loaded.objs
   pub objs : (j : ℕ) (x : Obj) → slice_get run.objs j ≡ Some x → IsObjOf faces loaded ends j x
   pub targets : run.targets ≡ map (need_targets loaded) (up_to (length loaded.objs))
@@ -109,4 +114,5 @@ pub record IsRunOf (faces : List Face) (opens : List (List ℕ)) (loaded : Loade
   pub opened : run.opens ≡ opens
   pub roots : run.roots ≡ map (target_in loaded.log) opens
   pub local_count : length run.locals ≡ length opens
-  pub locals : (k root : ℕ) (ks : List ℕ) → slice_get run.roots k ≡ Some root → slice_get run.locals k ≡ Some ks → IsLocal loaded root ks
+  pub locals : (k root : ℕ) (ks : List ℕ) → slice_get run.roots k ≡ Some root
+      → slice_get run.locals k ≡ Some ks → IsLocal loaded root ks

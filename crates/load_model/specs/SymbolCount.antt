@@ -1,4 +1,5 @@
--- How many symbols a file has: by its sections, by the hash table, by the GNU hash table (System V gABI, Sections and Hash Table)
+-- How many symbols a file has: by its sections, by the hash table, by the GNU hash table (System V
+-- gABI, Sections and Hash Table)
 use Rattle.std.specs.Prelude.{ℕ, ◌+◌, ◌*◌, ◌/◌, Bool, cond, ◌==◌, ◌&&◌, nat_le, List, Option, Some, None, length, map}
 use Rattle.std.specs.List.{find, range_with_len}
 use Rattle.std.specs.Option.{option_and_then, option_map}
@@ -24,7 +25,8 @@ sh_size file at = number_at 8 file (at + 32)
 
 -- the file has section headers of the one size, all of them
 abbrev pub has_sections : List ℕ → Bool
-has_sections file = (e_shentsize file == SHDR_SIZE) && nat_le (e_shoff file + 64 * e_shnum file) (length file)
+has_sections file =
+    (e_shentsize file == SHDR_SIZE) && nat_le (e_shoff file + 64 * e_shnum file) (length file)
 
 -- a section of dynamic symbols that begins at this address
 abbrev pub is_section_of : List ℕ → ℕ → ℕ → Bool
@@ -34,18 +36,22 @@ is_section_of file addr at = (sh_type file at == SHT_DYNSYM) && (sh_addr file at
 abbrev pub section_places : List ℕ → List ℕ
 section_places file = map (λ i. e_shoff file + 64 * i) (range_with_len 0 (e_shnum file))
 
--- by the first section of dynamic symbols that begins at the address of the symbols: how many fit in its size
+-- by the first section of dynamic symbols that begins at the address of the symbols: how many fit
+-- in its size
 unfoldable pub section_count : List ℕ → List Entry → Option ℕ
 section_count file entries =
-    cond (has_sections file) (option_map (λ at. sh_size file at / 24) (find (λ at. is_section_of file (symbols_at entries) at) (section_places file))) None
+    cond (has_sections file) (option_map (λ at. sh_size file at / 24) (find (λ at. is_section_of
+    file (symbols_at entries) at) (section_places file))) None
 
 -- by the hash table: it has a chain word for each symbol
 abbrev pub hash_count : List ℕ → List Segment → List Entry → Option ℕ
-hash_count file segments entries = option_map (λ addr. nchain file segments addr) (value_of DT_HASH entries)
+hash_count file segments entries =
+    option_map (λ addr. nchain file segments addr) (value_of DT_HASH entries)
 
 -- by the GNU hash table: its reach
 abbrev pub reach_count : List ℕ → List Segment → List Entry → Option ℕ
-reach_count file segments entries = option_and_then (λ addr. gnu_reach file segments addr) (value_of DT_GNU_HASH entries)
+reach_count file segments entries =
+    option_and_then (λ addr. gnu_reach file segments addr) (value_of DT_GNU_HASH entries)
 
 -- the first of the three that there is
 abbrev pub first_count : Option ℕ → Option ℕ → Option ℕ → Option ℕ
@@ -55,4 +61,5 @@ first_count None None reach = reach
 
 unfoldable pub count_in : List ℕ → List Segment → List Entry → Option ℕ
 count_in file segments entries =
-    first_count (section_count file entries) (hash_count file segments entries) (reach_count file segments entries)
+    first_count (section_count file entries) (hash_count file segments entries)
+    (reach_count file segments entries)

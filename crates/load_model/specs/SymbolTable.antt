@@ -29,4 +29,5 @@ symbol_of bytes at = record {
 
 -- so many symbols, as memory has them from an address on
 unfoldable pub symbols_in : List ℕ → List Segment → ℕ → ℕ → List RawSym
-symbols_in file segments addr count = map (λ i. symbol_of (memory_bytes file segments (addr + 24 * i) 24) 0) (range_with_len 0 count)
+symbols_in file segments addr count =
+    map (λ i. symbol_of (memory_bytes file segments (addr + 24 * i) 24) 0) (range_with_len 0 count)

@@ -17,9 +17,11 @@ visibility_of s = s.other % 4
 abbrev pub is_defined : RawSym → Bool
 is_defined s = not (s.section == SHN_UNDEF)
 
--- a value that a reference can bind to: one that is not 0, or any of a defined symbol that has no address
+-- a value that a reference can bind to: one that is not 0, or any of a defined symbol that has no
+-- address
 abbrev pub has_value : RawSym → Bool
-has_value s = not (s.value == 0) || (is_defined s && ((type_of s == STT_TLS) || (s.section == SHN_ABS)))
+has_value s =
+    not (s.value == 0) || (is_defined s && ((type_of s == STT_TLS) || (s.section == SHN_ABS)))
 
 -- a binding that other objects see
 abbrev pub is_shared : ℕ → Bool
@@ -28,7 +30,8 @@ is_shared binding = list_any (λ b. b == binding) (STB_GLOBAL ∷ STB_WEAK ∷ S
 -- a type of which something can be found by name
 abbrev pub is_found_by_name : ℕ → Bool
 is_found_by_name kind =
-    list_any (λ t. t == kind) (STT_NOTYPE ∷ STT_OBJECT ∷ STT_FUNC ∷ STT_COMMON ∷ STT_TLS ∷ STT_GNU_IFUNC ∷ [])
+    list_any (λ t. t == kind)
+    (STT_NOTYPE ∷ STT_OBJECT ∷ STT_FUNC ∷ STT_COMMON ∷ STT_TLS ∷ STT_GNU_IFUNC ∷ [])
 
 -- a visibility that lets other objects see it
 abbrev pub is_visible : ℕ → Bool

@@ -20,7 +20,9 @@ nchain file segments addr = word_in 4 file segments (addr + 4)
 unfoldable pub sysv_table : List ℕ → List Segment → ℕ → SysvTable
 sysv_table file segments addr = record {
   buckets = words_in 4 file segments (addr + 8) (nbucket file segments addr);
-  chains = words_in 4 file segments (addr + 8 + 4 * nbucket file segments addr) (nchain file segments addr);
+  chains =
+      words_in 4 file segments (addr + 8 + 4 * nbucket file segments addr)
+      (nchain file segments addr);
 }
 
 -- how many bytes it has, and where they begin and end in the file
@@ -60,6 +62,7 @@ is_sysv_sound t =
     && (list_all (λ w. is_link (length t.chains) w) t.chains
     && list_all (λ at. ends_in (length t.chains) t.chains at) t.buckets))
 
--- the table lists the symbol under the hash of its name: it stands in the chain of the hash's bucket
+-- the table lists the symbol under the hash of its name: it stands in the chain of the hash's
+-- bucket
 unfoldable pub sysv_lists : SysvTable → ℕ → ℕ → Bool
 sysv_lists t hash i = is_in_chain t.chains (slice_index t.buckets (hash % length t.buckets)) i

@@ -1,4 +1,5 @@
--- Words of 32 and of 64 bits that follow one another, read through memory (System V gABI, Data Encoding and Program Loading)
+-- Words of 32 and of 64 bits that follow one another, read through memory (System V gABI, Data
+-- Encoding and Program Loading)
 use Rattle.std.specs.Prelude.{ℕ, ◌+◌, ◌*◌, List, map}
 use Rattle.std.specs.List.{range_with_len}
 use Rattle.byte_view.specs.Memory.{memory_bytes}
@@ -11,4 +12,5 @@ word_in size file segments addr = number_at size (memory_bytes file segments add
 
 -- so many of them, from an address on
 unfoldable pub words_in : ℕ → List ℕ → List Segment → ℕ → ℕ → List ℕ
-words_in size file segments addr n = map (λ i. word_in size file segments (addr + size * i)) (range_with_len 0 n)
+words_in size file segments addr n =
+    map (λ i. word_in size file segments (addr + size * i)) (range_with_len 0 n)

@@ -96,4 +96,5 @@ first_unmet faces run = first_some (flat_map (unmet_of faces run) (up_to (length
 
 -- Each ask of each object is met.
 pub record VersionsMet (faces : List Face) (run : Run) : Type 0 where
-  pub met : (j k : ℕ) (face : Face) (ask : Ask) → face_at faces run j ≡ Some face → slice_get face.asks k ≡ Some ask → unmet faces run j ask ≡ None
+  pub met : (j k : ℕ) (face : Face) (ask : Ask) → face_at faces run j ≡ Some face
+      → slice_get face.asks k ≡ Some ask → unmet faces run j ask ≡ None

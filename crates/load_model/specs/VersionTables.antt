@@ -75,7 +75,8 @@ vna_name file at = memory_number 4 file (at + 8)
 abbrev pub vna_next : List ℕ → ℕ → ℕ
 vna_next file at = memory_number 4 file (at + 12)
 
--- record number k of some that follow one another: each lies as far behind the one before it as the next word of that one says
+-- record number k of some that follow one another: each lies as far behind the one before it as the
+-- next word of that one says
 unfoldable pub record_place : (ℕ → ℕ) → ℕ → ℕ → ℕ
 record_place next first zero = first
 record_place next first (suc k) = record_place next first k + next (record_place next first k)
@@ -119,9 +120,12 @@ abbrev pub vernauxs_of : List ℕ → ℕ → List ℕ
 vernauxs_of file verneed = map (vernaux_place file verneed) (range_with_len 0 (vn_cnt file verneed))
 
 unfoldable pub vernauxs : List ℕ → List (ℕ × ℕ)
-vernauxs file = flat_map (λ k. map (λ vernaux. (k, vernaux)) (vernauxs_of file (verneed_place file k))) (range_with_len 0 (verneed_count file))
+vernauxs file =
+    flat_map (λ k. map (λ vernaux. (k, vernaux)) (vernauxs_of file (verneed_place file k)))
+    (range_with_len 0 (verneed_count file))
 
--- the version indexes that definitions and needs give, definitions first, each with the string place of the version's name
+-- the version indexes that definitions and needs give, definitions first, each with the string
+-- place of the version's name
 abbrev pub index_in : ℕ → ℕ
 index_in word = bit_and word VERSYM_VERSION
 
@@ -132,13 +136,15 @@ abbrev pub needed_name : List ℕ → ℕ → ℕ × ℕ
 needed_name file vernaux = (index_in (vna_other file vernaux), vna_name file vernaux)
 
 unfoldable pub indexed_names : List ℕ → List (ℕ × ℕ)
-indexed_names file = map (defined_name file) (verdefs file) ++ map (λ a. needed_name file a.1) (vernauxs file)
+indexed_names file =
+    map (defined_name file) (verdefs file) ++ map (λ a. needed_name file a.1) (vernauxs file)
 
 -- of an index, the first of them counts
 abbrev pub place_by : ℕ → List (ℕ × ℕ) → Option ℕ
 place_by index names = option_map (λ n. n.1) (find (λ n. n.0 == index) names)
 
--- versym: a word for each symbol, with its version index and whether it is hidden; without versym each has the index 1
+-- versym: a word for each symbol, with its version index and whether it is hidden; without versym
+-- each has the index 1
 abbrev pub is_versioned : List ℕ → Bool
 is_versioned file = is_some (dynamic_value file DT_VERSYM)
 
@@ -149,7 +155,8 @@ abbrev pub versym_word : List ℕ → ℕ → ℕ
 versym_word file symbol = memory_number 2 file (versym file + 2 * symbol)
 
 abbrev pub version_index : List ℕ → ℕ → ℕ
-version_index file symbol = cond (is_versioned file) (index_in (versym_word file symbol)) VER_NDX_GLOBAL
+version_index file symbol =
+    cond (is_versioned file) (index_in (versym_word file symbol)) VER_NDX_GLOBAL
 
 abbrev pub is_hidden : List ℕ → ℕ → Bool
 is_hidden file symbol = is_versioned file && has_bit VERSYM_HIDDEN (versym_word file symbol)
@@ -159,10 +166,14 @@ abbrev pub name_by : List ℕ → Option ℕ → List ℕ
 name_by file place = unwrap_or (option_map (text_of file) place) []
 
 abbrev pub version_by : List ℕ → ℕ → Option ℕ → Ver
-version_by file index place = cond (index == VER_NDX_LOCAL) Local (cond (index == VER_NDX_GLOBAL) Global (Named index (name_by file place)))
+version_by file index place =
+    cond (index == VER_NDX_LOCAL) Local
+    (cond (index == VER_NDX_GLOBAL) Global (Named index (name_by file place)))
 
 abbrev pub version_of : List ℕ → ℕ → Ver
-version_of file symbol = version_by file (version_index file symbol) (place_by (version_index file symbol) (indexed_names file))
+version_of file symbol =
+    version_by file (version_index file symbol)
+    (place_by (version_index file symbol) (indexed_names file))
 
 -- the versions of so many symbols, and whether they are hidden
 unfoldable pub versions_of : ℕ → List ℕ → List Ver
@@ -173,7 +184,8 @@ hidden_of count file = map (is_hidden file) (range_with_len 0 count)
 
 -- the names of the definitions
 unfoldable pub definitions_of : List ℕ → List (List ℕ)
-definitions_of file = map (λ verdef. text_of file (vda_name file (verdaux_of file verdef))) (verdefs file)
+definitions_of file =
+    map (λ verdef. text_of file (vda_name file (verdaux_of file verdef))) (verdefs file)
 
 -- what is asked of which file
 abbrev pub ask_of : List ℕ → ℕ → ℕ → Ask
@@ -186,7 +198,8 @@ ask_of file verneed vernaux = record {
 unfoldable pub asks_of : List ℕ → List Ask
 asks_of file = map (λ a. ask_of file (verneed_place file a.0) a.1) (vernauxs file)
 
--- file places: of each vn_file word, of each Vernaux, and of each Verdef and its first Verdaux; for each Vernaux the number of its need
+-- file places: of each vn_file word, of each Vernaux, and of each Verdef and its first Verdaux; for
+-- each Vernaux the number of its need
 unfoldable pub file_words_of : List ℕ → List ℕ
 file_words_of file = map (λ verneed. file_place file verneed 16 + 4) (verneeds file)
 
@@ -197,4 +210,6 @@ unfoldable pub aux_places_of : List ℕ → List ℕ
 aux_places_of file = map (λ a. file_place file a.1 16) (vernauxs file)
 
 unfoldable pub def_places_of : List ℕ → List (ℕ × ℕ)
-def_places_of file = map (λ verdef. (file_place file verdef 20, file_place file (verdaux_of file verdef) 8)) (verdefs file)
+def_places_of file =
+    map (λ verdef. (file_place file verdef 20, file_place file (verdaux_of file verdef) 8))
+    (verdefs file)

@@ -14,8 +14,10 @@ World = List WorldFile
 -- paths are normal and distinct, and files of one identity have the same bytes
 pub record IsWorld (world : World) : Type 0 where
   pub paths : All (λ f. IsNormalPath f.path) world
-  pub distinct : (i j : ℕ) (f g : WorldFile) → slice_get world i ≡ Some f → slice_get world j ≡ Some g → f.path ≡ g.path → i ≡ j
-  pub same_bytes : (i j : ℕ) (f g : WorldFile) → slice_get world i ≡ Some f → slice_get world j ≡ Some g → f.id ≡ g.id → f.bytes ≡ g.bytes
+  pub distinct : (i j : ℕ) (f g : WorldFile) → slice_get world i ≡ Some f
+      → slice_get world j ≡ Some g → f.path ≡ g.path → i ≡ j
+  pub same_bytes : (i j : ℕ) (f g : WorldFile) → slice_get world i ≡ Some f
+      → slice_get world j ≡ Some g → f.id ≡ g.id → f.bytes ≡ g.bytes
 
 -- the file at a path
 abbrev pub file_at : World → List ℕ → Option WorldFile

@@ -27,7 +27,8 @@ pub trait Offers {
     /// It is the least index of those that the rule in `docs/LOADER.md` accepts. Takes no memory.
     fn offer(&self, name: &[u8], version: Option<&[u8]>, class: Class) -> Option<u32>
         requires few { length (offered self.now).syms < 2 ^ 32 }
-        ensures { result ≡ offer_of (offered self.now) name.now (option_copied version.entry) class };
+        ensures { result
+            ≡ offer_of (offered self.now) name.now (option_copied version.entry) class };
 }
 
 impl Offers for Face {

@@ -3,20 +3,20 @@ use Rattle.std.proofs.Common.{◌≡◌, ◌∙◌, sym, ap, refl, ℕ, zero, su
 use Rattle.std.specs.List.{flat_map}
 use Rattle.std.proofs.lemmas.Bool.{ne_eqb}
 use Rattle.path_text.specs.Path.{begins_at_root, path_of}
-use Rattle.load_model.specs.Candidates.{candidate_at, candidate_in, candidates, chain, items_by, listed_items, own_items, rpath_items, search_items}
+use Rattle.load_model.specs.Candidates.{candidate_at, candidate_in, candidates, loader_chain, items_by, listed_items, own_items, rpath_items, search_items}
 use Rattle.load_model.specs.LoadList.{Object, Request}
 use Rattle.load_model.specs.declared.setting.Setting.{Setting}
 
 module _ (f g : ℕ → ℕ) (bound : ℕ) (same : (j : ℕ) → 0 < j → j < bound → f j ≡ g j) (smaller : (j : ℕ) → 0 < j → j < bound → f j < bound) where
-  chain_same : (most j : ℕ) → j < bound → chain most f j ≡ chain most g j
-  unfolding chain
+  chain_same : (most j : ℕ) → j < bound → loader_chain most f j ≡ loader_chain most g j
+  unfolding loader_chain
   chain_same zero j below = refl
   chain_same (suc most) zero below = refl
   chain_same (suc most) (suc j) below =
       let some : (suc j == 0) ≡ false = ne_eqb (suc j) 0 (λ e. omega (arith, e)) in
-      ap (λ b. cond b (0 ∷ []) (suc j ∷ chain most f (f (suc j)))) some
-      ∙ ap (λ ks. suc j ∷ ks) (chain_same most (f (suc j)) (smaller (suc j) (omega arith) below) ∙ ap (chain most g) (same (suc j) (omega arith) below))
-      ∙ sym (ap (λ b. cond b (0 ∷ []) (suc j ∷ chain most g (g (suc j)))) some)
+      ap (λ b. cond b (0 ∷ []) (suc j ∷ loader_chain most f (f (suc j)))) some
+      ∙ ap (λ ks. suc j ∷ ks) (chain_same most (f (suc j)) (smaller (suc j) (omega arith) below) ∙ ap (loader_chain most g) (same (suc j) (omega arith) below))
+      ∙ sym (ap (λ b. cond b (0 ∷ []) (suc j ∷ loader_chain most g (g (suc j)))) some)
 
   items_same : (setting : Setting) (objs : List Object) (j : ℕ) (o : Object) (runpath : Option (List ℕ)) → j < bound → items_by setting objs f j o runpath ≡ items_by setting objs g j o runpath
   items_same setting objs j o None below = ap (λ ks. flat_map (λ k. rpath_items setting (slice_get objs k)) ks) (chain_same (length objs) j below)

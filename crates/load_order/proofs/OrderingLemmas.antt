@@ -15,8 +15,8 @@ use Rattle.load_model.proofs.Counts.{slice_get_left}
 use Rattle.load_model.proofs.History.{at_second}
 use Rattle.load_model.proofs.Machine.{next_ok, slice_get-drop}
 use Rattle.load_model.proofs.Places.{slice_get-take, slice_get_front}
-use Rattle.load_order.specs.Ending.{AreNoted, IsKept, WentFor}
-use Rattle.load_order.specs.Standing.{asked_to, needs_to, number_of, start_path}
+use Rattle.load_order.specs.Ending.{AreNoted, StaysInFront, WentFor}
+use Rattle.load_order.specs.Standing.{asked_to, needs_asked, number_of, start_path}
 
 pub some_at : {X : Type 0} (xs : List X) (j : ℕ) → j < length xs → (x : X) × (slice_get xs j ≡ Some x)
 some_at [] j h = absurd (omega arith)
@@ -57,7 +57,7 @@ asked_in k (x ∷ ns) (y ∷ ts) zero n t h g =
     (0, ap (λ z. Some (record { request = record { by = k; name = z }; target = y })) a ∙ ap (λ z. Some (record { request = record { by = k; name = n }; target = z })) b)
 asked_in k (x ∷ ns) (y ∷ ts) (suc e) n t h g = let r = asked_in k ns ts e n t h g in (suc r.0, r.1)
 
-pub need_in : (i : ℕ) (os : List Object) (tss : List (List ℕ)) (k : ℕ) (o : Object) (ts : List ℕ) → slice_get os k ≡ Some o → slice_get tss k ≡ Some ts → (e : ℕ) (n : List ℕ) (t : ℕ) → slice_get o.face.needs e ≡ Some n → slice_get ts e ≡ Some t → WentFor (needs_to i os tss) (i + k) n t
+pub need_in : (i : ℕ) (os : List Object) (tss : List (List ℕ)) (k : ℕ) (o : Object) (ts : List ℕ) → slice_get os k ≡ Some o → slice_get tss k ≡ Some ts → (e : ℕ) (n : List ℕ) (t : ℕ) → slice_get o.face.needs e ≡ Some n → slice_get ts e ≡ Some t → WentFor (needs_asked i os tss) (i + k) n t
 need_in i [] tss k o ts h g e n t p q = cc
 need_in i (x ∷ os) [] k o ts h g e n t p q = cc
 need_in i (x ∷ os) (y ∷ tss) zero o ts h g e n t p q =
@@ -65,34 +65,34 @@ need_in i (x ∷ os) (y ∷ tss) zero o ts h g e n t p q =
     let b : y ≡ ts = cc in
     let z : i ≡ i + 0 = omega arith in
     let r = asked_in i x.face.needs y e n t (ap (λ (w : Object). slice_get w.face.needs e) a ∙ p) (ap (λ w. slice_get w e) b ∙ q) in
-    (r.0, slice_get_left (asked_to i x.face.needs y) (needs_to (suc i) os tss) r.0 _ r.1 ∙ ap (λ j. Some (record { request = record { by = j; name = n }; target = t })) z)
+    (r.0, slice_get_left (asked_to i x.face.needs y) (needs_asked (suc i) os tss) r.0 _ r.1 ∙ ap (λ j. Some (record { request = record { by = j; name = n }; target = t })) z)
 need_in i (x ∷ os) (y ∷ tss) (suc k) o ts h g e n t p q =
     let r = need_in (suc i) os tss k o ts h g e n t p q in
-    let w = at_second (asked_to i x.face.needs y) (needs_to (suc i) os tss) r.0 (record { request = record { by = suc i + k; name = n }; target = t }) r.1 in
+    let w = at_second (asked_to i x.face.needs y) (needs_asked (suc i) os tss) r.0 (record { request = record { by = suc i + k; name = n }; target = t }) r.1 in
     let up : suc i + k ≡ i + suc k = omega arith in
     (w.0, w.1 ∙ ap (λ j. Some (record { request = record { by = j; name = n }; target = t })) up)
 
 -- what was loaded and asked stays
-pub kept_on : (a b c : Loaded) → IsKept a b → IsKept b c → IsKept a c
+pub kept_on : (a b c : Loaded) → StaysInFront a b → StaysInFront b c → StaysInFront a c
 kept_on a b c p q = record { objs = λ j o h. q.objs j o (p.objs j o h); log = λ m x h. q.log m x (p.log m x h) }
 
-pub kept_found : (s : Loaded) (r : Request) (f : Found) → IsKept s (with_found s r f)
+pub kept_found : (s : Loaded) (r : Request) (f : Found) → StaysInFront s (with_found s r f)
 kept_found s r (Known i) = record { objs = λ j o h. h; log = λ m a h. slice_get_left s.log (record { request = r; target = i } ∷ []) m a h }
 kept_found s r (Brought o) = record { objs = λ j x h. slice_get_left s.objs (o ∷ []) j x h; log = λ m a h. slice_get_left s.log (record { request = r; target = length s.objs } ∷ []) m a h }
 
-pub kept_log : (a b : Loaded) (more : List Asked) → ((j : ℕ) (o : Object) → slice_get a.objs j ≡ Some o → slice_get b.objs j ≡ Some o) → b.log ≡ a.log ++ more → IsKept a b
+pub kept_log : (a b : Loaded) (more : List Asked) → ((j : ℕ) (o : Object) → slice_get a.objs j ≡ Some o → slice_get b.objs j ≡ Some o) → b.log ≡ a.log ++ more → StaysInFront a b
 kept_log a b more objs log = record { objs = objs; log = λ m x h. ap (λ xs. slice_get xs m) log ∙ slice_get_left a.log more m x h }
 
 pub went_found : (s : Loaded) (by : ℕ) (n : List ℕ) (t : ℕ) (f : Found) → t ≡ number_of s f → WentFor (with_found s (record { by = by; name = n }) f).log by n t
 went_found s by n t (Known i) e = (length s.log, at_end s.log (record { request = record { by = by; name = n }; target = i }) ∙ ap (λ k. Some (record { request = record { by = by; name = n }; target = k })) (sym e))
 went_found s by n t (Brought o) e = (length s.log, at_end s.log (record { request = record { by = by; name = n }; target = length s.objs }) ∙ ap (λ k. Some (record { request = record { by = by; name = n }; target = k })) (sym e))
 
-pub kept_start : (a b : Loaded) → 0 < length a.objs → IsKept a b → start_path b ≡ start_path a
+pub kept_start : (a b : Loaded) → 0 < length a.objs → StaysInFront a b → start_path b ≡ start_path a
 kept_start a b some kept =
     let x = some_at a.objs 0 some in
     ap path_by (kept.objs 0 x.0 x.1 ∙ sym x.1)
 
-pub noted_kept : (a b : Loaded) (targets : List (List ℕ)) → length targets ≤ length a.objs → IsKept a b → AreNoted a targets → AreNoted b targets
+pub noted_kept : (a b : Loaded) (targets : List (List ℕ)) → length targets ≤ length a.objs → StaysInFront a b → AreNoted a targets → AreNoted b targets
 noted_kept a b targets le kept noted k o ts h g e n t p q =
     let within : k < length targets = slice_get_within targets k ts g in
     let x = some_at a.objs k (omega arith) in
@@ -102,7 +102,7 @@ noted_kept a b targets le kept noted k o ts h g e n t p q =
     (r.0, kept.log r.0 _ r.1)
 
 -- after a walk
-pub noted_walk : (a b : Loaded) (olds news : List (List ℕ)) → length olds ≤ length a.objs → IsKept a b → take (length olds) news ≡ olds → b.log ≡ a.log ++ needs_to (length olds) (drop (length olds) b.objs) (drop (length olds) news) → AreNoted a olds → AreNoted b news
+pub noted_walk : (a b : Loaded) (olds news : List (List ℕ)) → length olds ≤ length a.objs → StaysInFront a b → take (length olds) news ≡ olds → b.log ≡ a.log ++ needs_asked (length olds) (drop (length olds) b.objs) (drop (length olds) news) → AreNoted a olds → AreNoted b news
 noted_walk a b olds news le kept front log noted k o ts h g e n t p q =
     let c : ℕ = length olds in
     elim (cases_lt k c) [
@@ -113,7 +113,7 @@ noted_walk a b olds news le kept front log noted k o ts h g e n t p q =
           let d : ℕ = k - c in
           let at : c + d ≡ k = omega arith in
           let r = need_in c (drop c b.objs) (drop c news) d o ts (slice_get-drop c b.objs d ∙ ap (slice_get b.objs) at ∙ h) (slice_get-drop c news d ∙ ap (slice_get news) at ∙ g) e n t p q in
-          let w = at_second a.log (needs_to c (drop c b.objs) (drop c news)) r.0 (record { request = record { by = c + d; name = n }; target = t }) r.1 in
+          let w = at_second a.log (needs_asked c (drop c b.objs) (drop c news)) r.0 (record { request = record { by = c + d; name = n }; target = t }) r.1 in
           (w.0, ap (λ xs. slice_get xs w.0) log ∙ w.1 ∙ ap (λ j. Some (record { request = record { by = j; name = n }; target = t })) at)
     ]
 

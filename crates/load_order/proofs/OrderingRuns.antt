@@ -22,7 +22,7 @@ use Rattle.load_model.specs.declared.setting.Setting.{Setting}
 use Rattle.load_model.proofs.AskedNeeds.{get_map}
 use Rattle.load_model.proofs.LoadLists.{is_ended, is_stop, name_has_target}
 use Rattle.load_model.proofs.Places.{slice_get_front}
-use Rattle.load_order.specs.Ending.{AreNoted, IsEnded, IsKept, IsOpened, IsOpening, IsOpeningAll, IsPhaseMore, IsReady, WentFor}
+use Rattle.load_order.specs.Ending.{AreNoted, IsLoadEnd, StaysInFront, IsPhaseEnd, IsOpening, IsOpeningAll, IsPhaseMore, IsReady, WentFor}
 use Rattle.load_order.specs.Loading.{IsRead, IsRefusedBy, refusal_of}
 use Rattle.load_order.specs.Reaching.{AreReaches, IsMadeOf, IsReach, reached_in, targets_at}
 use Rattle.load_order.specs.Standing.{IsAlone, IsSafe, IsStarted, IsWalked, IsWalkedTo, IsWalking, Stands, start_path}
@@ -70,9 +70,9 @@ module _ (setting : Setting) (v1 v2 : OpenerView) (s0 s1 : Loading) (path : List
       ∙ ap (λ q. walk (goes_to face_or_flaw setting world q) (suc MOST_OBJECTS) 0 (start_of program)) (sym named)
       ∙ ap (λ i. walk (goes_to face_or_flaw setting world (start_path (start_of program))) (suc MOST_OBJECTS) i (start_of program)) (sym from_zero)
 
-  pub first_ended : IsWalking s0 s1 → OnlyGrew v1 v2 → (w : IsWalkedTo setting v1 v2 s0 s1 (start_of program)) → IsEnded setting v1.told v2.faces path program [] s1 [] w.end (w.end ∷ [])
+  pub first_ended : IsWalking s0 s1 → OnlyGrew v1 v2 → (w : IsWalkedTo setting v1 v2 s0 s1 (start_of program)) → IsLoadEnd setting v1.told v2.faces path program [] s1 [] w.end (w.end ∷ [])
   first_ended walking grew w =
-      let kept : IsKept (start_of program) w.end = kept_log (start_of program) w.end _ (same_object v1.faces v2.faces s0.objs s1.objs (program ∷ []) w.end.objs grew.faces walking.objs walking.longer stands.objects w.stands.objects) w.log in
+      let kept : StaysInFront (start_of program) w.end = kept_log (start_of program) w.end _ (same_object v1.faces v2.faces s0.objs s1.objs (program ∷ []) w.end.objs grew.faces walking.objs walking.longer stands.objects w.stands.objects) w.log in
       let z = from_zero in
       let none : AreNoted (start_of program) s0.targets = subst (λ ts. AreNoted (start_of program) ts) (sym alone.targets) (λ k o ts h g e n t p q. cc) in
       let zero_is : s1.phase ≡ 0 = walking.phase ∙ alone.phase in
@@ -147,20 +147,20 @@ module _ (loaded : Loaded) (targets : List (List ℕ)) (is : targets ≡ map (ne
 name_to : (opens : List (List ℕ)) (i : ℕ) (name : List ℕ) → i < length opens → name ≡ get_or opens i name → name ≡ get_or opens i []
 name_to opens i name less is = sym (get_or_from_slice_get opens i name [] (slice_get-get_or opens i name less ∙ ap Some (sym is)))
 
-module _ (setting : Setting) (v0 v1 v2 : OpenerView) (path : List ℕ) (program : Object) (opens : List (List ℕ)) (i : ℕ) (s s2 : Loading) (numbers : List ℕ) (name : List ℕ) (grew : OnlyGrew v0 v1) (less : i < length opens) (named : name ≡ get_or opens i name) (count : length numbers ≡ i) (some : 0 < length s.objs) (loaded : Loaded) (ends : List Loaded) (e : IsEnded setting v0.told v1.faces path program (take i opens) s numbers loaded ends) where
+module _ (setting : Setting) (v0 v1 v2 : OpenerView) (path : List ℕ) (program : Object) (opens : List (List ℕ)) (i : ℕ) (s s2 : Loading) (numbers : List ℕ) (name : List ℕ) (grew : OnlyGrew v0 v1) (less : i < length opens) (named : name ≡ get_or opens i name) (count : length numbers ≡ i) (some : 0 < length s.objs) (loaded : Loaded) (ends : List Loaded) (e : IsLoadEnd setting v0.told v1.faces path program (take i opens) s numbers loaded ends) where
   pub all_stop : (stop : LoadStop) → IsOpening setting v1 v2 s s2 loaded name (Err stop) → WhereTold v0.told (λ world. IsRefusedBy (λ r. run (goes_to face_or_flaw setting world path) MOST_OBJECTS program opens ≡ Err r) (refusal_of stop)) × (IsRead stop → Rose v0.faults v2.faults)
   all_stop stop o = (
     ended_stop setting v0.told v1 v2 path program opens i s s2 numbers loaded ends grew.world less count some e stop (subst (λ n. IsOpening setting v1 v2 s s2 loaded n (Err stop)) (name_to opens i name less named) o),
     λ r. rose_on v0.faults v1.faults v2.faults grew.faults (o.1 r),
   )
 
-  pub all_more : (target : ℕ) (new : List ℕ) (starts : ℕ) → IsPhaseMore s s2 → IsOpened setting v1 v2 s s2 loaded name target → new ≡ numbers ++ target ∷ [] → start_count ends ≡ starts → (end : Loaded) × (more : List Loaded) × IsEnded setting v0.told v2.faces path program (take (i + 1) opens) s2 new end more × (start_count more ≡ starts)
+  pub all_more : (target : ℕ) (new : List ℕ) (starts : ℕ) → IsPhaseMore s s2 → IsPhaseEnd setting v1 v2 s s2 loaded name target → new ≡ numbers ++ target ∷ [] → start_count ends ≡ starts → (end : Loaded) × (more : List Loaded) × IsLoadEnd setting v0.told v2.faces path program (take (i + 1) opens) s2 new end more × (start_count more ≡ starts)
   all_more target new starts more o is from =
-      let there : IsOpened setting v1 v2 s s2 loaded (get_or opens i []) target = subst (λ n. IsOpened setting v1 v2 s s2 loaded n target) (name_to opens i name less named) o in
+      let there : IsPhaseEnd setting v1 v2 s s2 loaded (get_or opens i []) target = subst (λ n. IsPhaseEnd setting v1 v2 s s2 loaded n target) (name_to opens i name less named) o in
       (there.end, ends ++ there.end ∷ [], ended_more setting v0.told v1 v2 path program opens i s s2 numbers loaded ends grew.world less count some e target more there new is, start_more ends there.end s.phase e.count ∙ from)
 
-pub all_done : (setting : Setting) (told : Option World) (faces : List Face) (path : List ℕ) (program : Object) (opens : List (List ℕ)) (i : ℕ) (s : Loading) (numbers : List ℕ) (loaded : Loaded) (ends : List Loaded) → length opens ≤ i → IsEnded setting told faces path program (take i opens) s numbers loaded ends → IsEnded setting told faces path program opens s numbers loaded ends
-all_done setting told faces path program opens i s numbers loaded ends le e = subst (λ xs. IsEnded setting told faces path program xs s numbers loaded ends) (take_all i opens le) e
+pub all_done : (setting : Setting) (told : Option World) (faces : List Face) (path : List ℕ) (program : Object) (opens : List (List ℕ)) (i : ℕ) (s : Loading) (numbers : List ℕ) (loaded : Loaded) (ends : List Loaded) → length opens ≤ i → IsLoadEnd setting told faces path program (take i opens) s numbers loaded ends → IsLoadEnd setting told faces path program opens s numbers loaded ends
+all_done setting told faces path program opens i s numbers loaded ends le e = subst (λ xs. IsLoadEnd setting told faces path program xs s numbers loaded ends) (take_all i opens le) e
 
 pub ready_done : (old new : Loading) (i n : ℕ) (numbers : List ℕ) → i ≡ n → IsReady old new i numbers → IsReady old new n numbers
 ready_done old new i n numbers e r = subst (λ k. IsReady old new k numbers) e r
@@ -202,7 +202,7 @@ module _ (faces : List Face) (s : Loading) (opens : List (List ℕ)) (numbers : 
   pub small_loaders : HasSmallLoaders made_run
   small_loaders = record { program = safe.own; others = safe.smaller }
 
-  module _ (setting : Setting) (told : Option World) (path : List ℕ) (program : Object) (loaded : Loaded) (ends : List Loaded) (e : IsEnded setting told faces path program opens s numbers loaded ends) (global_is : global ≡ start_count ends) (world : World) (tell : told ≡ Some world) (starts : program_at face_or_flaw setting world path ≡ Ok program) where
+  module _ (setting : Setting) (told : Option World) (path : List ℕ) (program : Object) (loaded : Loaded) (ends : List Loaded) (e : IsLoadEnd setting told faces path program opens s numbers loaded ends) (global_is : global ≡ start_count ends) (world : World) (tell : told ≡ Some world) (starts : program_at face_or_flaw setting world path ≡ Ok program) where
     list : IsLoadList face_or_flaw setting world path opens loaded ends
     list = let r = e.recursion world tell in record { program = program; starts = starts; run = is_ended face_or_flaw setting world path program opens loaded ends r.0 r.1 }
 
@@ -290,9 +290,9 @@ open_stopped setting v0 v2 v3 path program opens s ends grew starts stop o = (
 )
 
 -- the load before any name is opened
-pub before_opens : (setting : Setting) (v0 v1 v2 : OpenerView) (s0 s1 : Loading) (path : List ℕ) → IsAlone s0 → IsSafe v1.faces s0 → (st : IsStarted setting v0 v1 path (Ok s0)) → IsWalking s0 s1 → OnlyGrew v1 v2 → (w : IsWalkedTo setting v1 v2 s0 s1 (start_of st.0)) → IsEnded setting v2.told v2.faces path st.0 [] s1 [] w.end (w.end ∷ [])
+pub before_opens : (setting : Setting) (v0 v1 v2 : OpenerView) (s0 s1 : Loading) (path : List ℕ) → IsAlone s0 → IsSafe v1.faces s0 → (st : IsStarted setting v0 v1 path (Ok s0)) → IsWalking s0 s1 → OnlyGrew v1 v2 → (w : IsWalkedTo setting v1 v2 s0 s1 (start_of st.0)) → IsLoadEnd setting v2.told v2.faces path st.0 [] s1 [] w.end (w.end ∷ [])
 before_opens setting v0 v1 v2 s0 s1 path alone safe st walking grew w =
-    subst (λ told. IsEnded setting told v2.faces path st.0 [] s1 [] w.end (w.end ∷ [])) (sym grew.world) (first_ended setting v1 v2 s0 s1 path st.0 alone safe st.1 st.2 walking grew w)
+    subst (λ told. IsLoadEnd setting told v2.faces path st.0 [] s1 [] w.end (w.end ∷ [])) (sym grew.world) (first_ended setting v1 v2 s0 s1 path st.0 alone safe st.1 st.2 walking grew w)
 
 pub load_made : (setting : Setting) (v0 v2 v3 : OpenerView) (path : List ℕ) (program : Object) (opens : List (List ℕ)) (s1 s : Loading) (starts : List Loaded) (numbers : List ℕ) (global : ℕ) (run : Run) → OnlyGrew v0 v2 → WhereTold v0.told (λ world. program_at face_or_flaw setting world path ≡ Ok program) → IsSafe v3.faces s → IsReady s1 s (length opens) numbers → s1.phase ≡ 0 → global ≡ length s1.objs → start_count starts ≡ length s1.objs → IsMadeOf s global opens numbers run → IsOpeningAll setting v2 v3 path program opens s starts (Ok numbers) → IsRunOver v3.faces run × HasSmallLoaders run × (run.opens ≡ opens) × WhereTold v0.told (λ world. Loads face_or_flaw setting world v3.faces path opens run)
 load_made setting v0 v2 v3 path program opens s1 s starts numbers global run grew begins safe ready zero_is global_is starts_is made o =

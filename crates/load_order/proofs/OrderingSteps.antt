@@ -19,7 +19,7 @@ use Rattle.load_model.specs.declared.refusals.LoadRefusal.{LoadRefusal}
 use Rattle.load_model.specs.declared.runs.Obj.{Obj}
 use Rattle.load_model.specs.declared.setting.Setting.{Setting}
 use Rattle.load_model.proofs.Places.{slice_get-take, slice_get_front}
-use Rattle.load_order.specs.Ending.{AreNoted, IsEnded, IsKept, IsOpened, IsOpening, IsPhaseMore, IsReady, WentFor}
+use Rattle.load_order.specs.Ending.{AreNoted, IsLoadEnd, StaysInFront, IsPhaseEnd, IsOpening, IsPhaseMore, IsReady, WentFor}
 use Rattle.load_order.specs.Loading.{IsRefusedBy, refusal_of}
 use Rattle.load_order.specs.Standing.{IsAskedFor, IsAsking, IsSafe, IsWalked, IsWalkedTo, IsWalking, Stands, start_path}
 use Rattle.load_order.specs.declared.loading.Loading.{Loading}
@@ -122,14 +122,14 @@ module _ (setting : Setting) (v0 v1 : OpenerView) (old s1 : Loading) (p : ℕ) (
         ap (λ q. walk (goes_to face_or_flaw setting world q) MOST_OBJECTS (length loaded.objs) mid) (sym start_mid)
         ∙ ap (λ i. walk (goes_to face_or_flaw setting world (start_path mid)) MOST_OBJECTS i mid) (sym from_is)
 
-    pub opened : IsWalking s1 s2 → OnlyGrew v1 v2 → IsWalkedTo setting v1 v2 s1 s2 mid → IsOpened setting v0 v2 old s2 loaded name t
+    pub opened : IsWalking s1 s2 → OnlyGrew v1 v2 → IsWalkedTo setting v1 v2 s1 s2 mid → IsPhaseEnd setting v0 v2 old s2 loaded name t
     opened walking grew2 w =
         let a = loaded_size in
         let b = mid_size in
         let c = from_is in
         let d = asking.longer in
-        let kept_mid : IsKept mid w.end = kept_log mid w.end _ (same_object v1.faces v2.faces s1.objs s2.objs mid.objs w.end.objs grew2.faces walking.objs walking.longer asked.2.objects w.stands.objects) w.log in
-        let kept_first : IsKept loaded mid = kept_found loaded request asked.0 in
+        let kept_mid : StaysInFront mid w.end = kept_log mid w.end _ (same_object v1.faces v2.faces s1.objs s2.objs mid.objs w.end.objs grew2.faces walking.objs walking.longer asked.2.objects w.stands.objects) w.log in
+        let kept_first : StaysInFront loaded mid = kept_found loaded request asked.0 in
         let went = went_found loaded 0 name t asked.0 asked.1 in
         record {
           end = w.end;
@@ -157,14 +157,14 @@ module _ (setting : Setting) (v0 v1 : OpenerView) (old s1 : Loading) (p : ℕ) (
   )
 
 -- one opening more
-module _ (setting : Setting) (told : Option World) (v1 v2 : OpenerView) (path : List ℕ) (program : Object) (opens : List (List ℕ)) (i : ℕ) (s s2 : Loading) (numbers : List ℕ) (loaded : Loaded) (ends : List Loaded) (tells : v1.told ≡ told) (less : i < length opens) (count : length numbers ≡ i) (some : 0 < length s.objs) (e : IsEnded setting told v1.faces path program (take i opens) s numbers loaded ends) where
+module _ (setting : Setting) (told : Option World) (v1 v2 : OpenerView) (path : List ℕ) (program : Object) (opens : List (List ℕ)) (i : ℕ) (s s2 : Loading) (numbers : List ℕ) (loaded : Loaded) (ends : List Loaded) (tells : v1.told ≡ told) (less : i < length opens) (count : length numbers ≡ i) (some : 0 < length s.objs) (e : IsLoadEnd setting told v1.faces path program (take i opens) s numbers loaded ends) where
   size_is : length loaded.objs ≡ length s.objs
   size_is = e.stands.objects.count
 
   phase_to : (world : World) (r : Result Loaded LoadRefusal) → phase (goes_to face_or_flaw setting world (start_path loaded)) MOST_OBJECTS loaded (get_or opens i [] ∷ []) ≡ r → phase (goes_to face_or_flaw setting world path) MOST_OBJECTS loaded (get_or opens i [] ∷ []) ≡ r
   phase_to world r h = ap (λ q. phase (goes_to face_or_flaw setting world q) MOST_OBJECTS loaded (get_or opens i [] ∷ [])) (sym e.start) ∙ h
 
-  module _ (target : ℕ) (more : IsPhaseMore s s2) (o : IsOpened setting v1 v2 s s2 loaded (get_or opens i []) target) where
+  module _ (target : ℕ) (more : IsPhaseMore s s2) (o : IsPhaseEnd setting v1 v2 s s2 loaded (get_or opens i []) target) where
     end_size : length o.end.objs ≡ length s2.objs
     end_size = o.stands.objects.count
 
@@ -196,7 +196,7 @@ module _ (setting : Setting) (told : Option World) (v1 v2 : OpenerView) (path : 
         let same : get_or opens i [] ≡ n = ap (λ j. get_or opens j []) (sym at) ∙ get_or_from_slice_get opens k n [] there.1 in
         subst (λ x. WentFor o.end.log 0 n x) g.1 (subst (λ x. WentFor o.end.log 0 x target) same o.root)
 
-    pub ended_more : (new : List ℕ) → new ≡ numbers ++ target ∷ [] → IsEnded setting told v2.faces path program (take (i + 1) opens) s2 new o.end (ends ++ o.end ∷ [])
+    pub ended_more : (new : List ℕ) → new ≡ numbers ++ target ∷ [] → IsLoadEnd setting told v2.faces path program (take (i + 1) opens) s2 new o.end (ends ++ o.end ∷ [])
     ended_more new is =
         let a = size_is in
         let size : length (ends ++ o.end ∷ []) ≡ length ends + 1 = length-append ends (o.end ∷ []) in

@@ -3,7 +3,7 @@ use Rattle.std.proofs.Common.{◌≡◌, ◌∙◌, sym, ap, refl, ℕ, zero, su
 use Rattle.std.proofs.lemmas.List.{append-nil, take-take}
 use Rattle.load_model.specs.Candidates.{path_by}
 use Rattle.load_model.specs.LoadList.{Object}
-use Rattle.load_order.specs.Standing.{asked_to, needs_to}
+use Rattle.load_order.specs.Standing.{asked_to, needs_asked}
 
 pub get_push : {X : Type 0} (xs : List X) (x : X) (m : ℕ) (y : X) → slice_get (xs ++ x ∷ []) m ≡ Some y → (slice_get xs m ≡ Some y) ⊎ ((m ≡ length xs) × (x ≡ y))
 get_push [] x zero y h = inr (refl, cc)
@@ -65,19 +65,19 @@ asked_push k (m ∷ ns) n [] t h = absurd (omega arith)
 asked_push k (m ∷ ns) n (u ∷ ts) t h = ap (λ log. record { request = record { by = k; name = m }; target = u } ∷ log) (asked_push k ns n ts t (omega arith))
 
 -- objects behind those that asked say nothing of the log
-pub needs_front : (k : ℕ) (os more : List Object) (tss : List (List ℕ)) → length tss ≤ length os → needs_to k (os ++ more) tss ≡ needs_to k os tss
+pub needs_front : (k : ℕ) (os more : List Object) (tss : List (List ℕ)) → length tss ≤ length os → needs_asked k (os ++ more) tss ≡ needs_asked k os tss
 needs_front k [] [] tss h = refl
 needs_front k [] (o ∷ more) [] h = refl
 needs_front k [] (o ∷ more) (ts ∷ tss) h = absurd (omega arith)
 needs_front k (o ∷ os) more [] h = refl
 needs_front k (o ∷ os) more (ts ∷ tss) h = ap (λ log. asked_to k o.face.needs ts ++ log) (needs_front (suc k) os more tss (omega arith))
 
-rest_none : (k : ℕ) (p : Object) (os : List Object) (ts : List ℕ) → needs_to k (p ∷ os) (ts ∷ []) ≡ asked_to k p.face.needs ts
+rest_none : (k : ℕ) (p : Object) (os : List Object) (ts : List ℕ) → needs_asked k (p ∷ os) (ts ∷ []) ≡ asked_to k p.face.needs ts
 rest_none k p [] ts = append-nil (asked_to k p.face.needs ts)
 rest_none k p (q ∷ os) ts = append-nil (asked_to k p.face.needs ts)
 
 -- one object more that asked
-pub needs_push : (k : ℕ) (os : List Object) (tss : List (List ℕ)) (ts : List ℕ) (o : Object) → slice_get os (length tss) ≡ Some o → needs_to k os (tss ++ ts ∷ []) ≡ needs_to k os tss ++ asked_to (k + length tss) o.face.needs ts
+pub needs_push : (k : ℕ) (os : List Object) (tss : List (List ℕ)) (ts : List ℕ) (o : Object) → slice_get os (length tss) ≡ Some o → needs_asked k os (tss ++ ts ∷ []) ≡ needs_asked k os tss ++ asked_to (k + length tss) o.face.needs ts
 needs_push k [] tss ts o h = cc
 needs_push k (p ∷ os) [] ts o h =
     let same : p ≡ o = cc in
@@ -85,5 +85,5 @@ needs_push k (p ∷ os) [] ts o h =
     rest_none k p os ts ∙ ap (λ q. asked_to k q.face.needs ts) same ∙ ap (λ i. asked_to i o.face.needs ts) z
 needs_push k (p ∷ os) (us ∷ tss) ts o h =
     let z : suc k + length tss ≡ k + suc (length tss) = omega arith in
-    ap (λ log. asked_to k p.face.needs us ++ log) (needs_push (suc k) os tss ts o h ∙ ap (λ i. needs_to (suc k) os tss ++ asked_to i o.face.needs ts) z)
-    ∙ sym (append_assoc (asked_to k p.face.needs us) (needs_to (suc k) os tss) (asked_to (k + suc (length tss)) o.face.needs ts))
+    ap (λ log. asked_to k p.face.needs us ++ log) (needs_push (suc k) os tss ts o h ∙ ap (λ i. needs_asked (suc k) os tss ++ asked_to i o.face.needs ts) z)
+    ∙ sym (append_assoc (asked_to k p.face.needs us) (needs_asked (suc k) os tss) (asked_to (k + suc (length tss)) o.face.needs ts))

@@ -15,7 +15,7 @@ use Rattle.load_model.specs.declared.runs.Obj.{Obj}
 use Rattle.load_model.specs.declared.setting.Setting.{Setting}
 use Rattle.load_order.specs.Loading.{refusal_of}
 use Rattle.load_order.specs.Needing.{AreAsked, AreAskedTo, AreNeedsOf, requests_by}
-use Rattle.load_order.specs.Standing.{IsAsking, IsSafe, IsWalked, IsWalkedTo, IsWalking, Stands, asked_to, needs_to, start_path}
+use Rattle.load_order.specs.Standing.{IsAsking, IsSafe, IsWalked, IsWalkedTo, IsWalking, Stands, asked_to, needs_asked, start_path}
 use Rattle.load_order.specs.declared.loading.Loading.{Loading}
 use Rattle.load_order.specs.declared.stops.LoadStop.{LoadStop}
 use Rattle.load_order.specs.declared.stops.LoadStop.TheVariants.{NoMemory}
@@ -47,7 +47,7 @@ pub record AreWalkedTo (setting : Setting) (before now : OpenerView) (old new : 
   pub stands : Stands now.faces new at
   pub brought : List Object
   pub objs : at.objs ≡ loaded.objs ++ brought
-  pub log : at.log ≡ loaded.log ++ needs_to (length old.targets) (drop (length old.targets) at.objs) (drop (length old.targets) new.targets)
+  pub log : at.log ≡ loaded.log ++ needs_asked (length old.targets) (drop (length old.targets) at.objs) (drop (length old.targets) new.targets)
   pub left : (more rest : ℕ) → length old.targets + more ≡ length new.targets + rest → WhereTold before.told (λ world. walk (goes_to face_or_flaw setting world (start_path loaded)) more (length old.targets) loaded ≡ walk (goes_to face_or_flaw setting world (start_path loaded)) rest (length new.targets) at)
 
 pub record WalksTo (setting : Setting) (before now : OpenerView) (old new : Loading) : Type 0 where
@@ -61,7 +61,7 @@ pub record WalksTo (setting : Setting) (before now : OpenerView) (old new : Load
   pub answer : (loaded : Loaded) → Stands before.faces old loaded → AreWalkedTo setting before now old new loaded
   pub grew : OnlyGrew before now
 
-nothing_asked : (k : ℕ) (os : List Object) → needs_to k os [] ≡ []
+nothing_asked : (k : ℕ) (os : List Object) → needs_asked k os [] ≡ []
 nothing_asked k [] = refl
 nothing_asked k (o ∷ os) = refl
 
@@ -73,7 +73,7 @@ walked_none_to setting b s loaded stands = record {
   objs = sym (append-nil loaded.objs);
   log = sym (append-nil loaded.log)
       ∙ ap (λ log. loaded.log ++ log) (sym (nothing_asked (length s.targets) (drop (length s.targets) loaded.objs)))
-      ∙ ap (λ tss. loaded.log ++ needs_to (length s.targets) (drop (length s.targets) loaded.objs) tss) (sym (drop_all (length s.targets) s.targets (omega arith)));
+      ∙ ap (λ tss. loaded.log ++ needs_asked (length s.targets) (drop (length s.targets) loaded.objs) tss) (sym (drop_all (length s.targets) s.targets (omega arith)));
   left = λ more rest e world told. let same : more ≡ rest = omega (arith, e) in ap (λ n. walk (goes_to face_or_flaw setting world (start_path loaded)) n (length s.targets) loaded) same;
 }
 
@@ -174,7 +174,7 @@ module _ (setting : Setting) (b0 b1 b2 : OpenerView) (s0 s1 s2 s3 : Loading) (ne
 
     log_on : (loaded : Loaded) (stands : Stands b0.faces s0 loaded) (a : AreWalkedTo setting b0 b1 s0 s1 loaded) (o : Object) (end_objs brought : List Object) (end_log : List Asked) → slice_get a.at.objs (length s1.targets) ≡ Some o → needs ≡ o.face.needs
         → end_objs ≡ a.at.objs ++ brought → end_log ≡ a.at.log ++ asked_to (length s1.targets) needs ts
-        → end_log ≡ loaded.log ++ needs_to (length s0.targets) (drop (length s0.targets) end_objs) (drop (length s0.targets) s3.targets)
+        → end_log ≡ loaded.log ++ needs_asked (length s0.targets) (drop (length s0.targets) end_objs) (drop (length s0.targets) s3.targets)
     log_on loaded stands a o end_objs brought end_log at needs_are objs log =
         let k : ℕ = length s0.targets in
         let here = within a.at.objs (length s1.targets) o at in
@@ -182,17 +182,17 @@ module _ (setting : Setting) (b0 b1 b2 : OpenerView) (s0 s1 s2 s3 : Loading) (ne
         let objs_long = length-drop k a.at.objs in
         let from : k + length (drop k s1.targets) ≡ length s1.targets = omega (arith, tail_long, so_far.further) in
         let place : slice_get (drop k a.at.objs) (length (drop k s1.targets)) ≡ Some o = get_dropped k a.at.objs (length (drop k s1.targets)) ∙ ap (λ i. slice_get a.at.objs i) from ∙ at in
-        let both : needs_to k (drop k end_objs) (drop k s3.targets) ≡ needs_to k (drop k a.at.objs) (drop k s1.targets) ++ asked_to (length s1.targets) needs ts =
-        ap (λ os. needs_to k (drop k os) (drop k s3.targets)) objs
-        ∙ ap (λ os. needs_to k os (drop k s3.targets)) (drop-append-le k a.at.objs brought (omega (arith, here, so_far.further)))
-        ∙ ap (λ tss. needs_to k (drop k a.at.objs ++ brought) (drop k tss)) all_targets
-        ∙ ap (λ tss. needs_to k (drop k a.at.objs ++ brought) tss) (drop-append-le k s1.targets (ts ∷ []) so_far.further)
+        let both : needs_asked k (drop k end_objs) (drop k s3.targets) ≡ needs_asked k (drop k a.at.objs) (drop k s1.targets) ++ asked_to (length s1.targets) needs ts =
+        ap (λ os. needs_asked k (drop k os) (drop k s3.targets)) objs
+        ∙ ap (λ os. needs_asked k os (drop k s3.targets)) (drop-append-le k a.at.objs brought (omega (arith, here, so_far.further)))
+        ∙ ap (λ tss. needs_asked k (drop k a.at.objs ++ brought) (drop k tss)) all_targets
+        ∙ ap (λ tss. needs_asked k (drop k a.at.objs ++ brought) tss) (drop-append-le k s1.targets (ts ∷ []) so_far.further)
         ∙ needs_front k (drop k a.at.objs) brought (drop k s1.targets ++ ts ∷ []) (let l = length_push (drop k s1.targets) ts in omega (arith, l, here, tail_long, objs_long, so_far.further))
         ∙ needs_push k (drop k a.at.objs) (drop k s1.targets) ts o place
-        ∙ ap (λ ns. needs_to k (drop k a.at.objs) (drop k s1.targets) ++ asked_to (k + length (drop k s1.targets)) ns ts) (sym needs_are)
-        ∙ ap (λ i. needs_to k (drop k a.at.objs) (drop k s1.targets) ++ asked_to i needs ts) from in
+        ∙ ap (λ ns. needs_asked k (drop k a.at.objs) (drop k s1.targets) ++ asked_to (k + length (drop k s1.targets)) ns ts) (sym needs_are)
+        ∙ ap (λ i. needs_asked k (drop k a.at.objs) (drop k s1.targets) ++ asked_to i needs ts) from in
         log ∙ ap (λ l. l ++ asked_to (length s1.targets) needs ts) a.log
-        ∙ append_assoc loaded.log (needs_to k (drop k a.at.objs) (drop k s1.targets)) (asked_to (length s1.targets) needs ts)
+        ∙ append_assoc loaded.log (needs_asked k (drop k a.at.objs) (drop k s1.targets)) (asked_to (length s1.targets) needs ts)
         ∙ ap (λ l. loaded.log ++ l) (sym both)
 
     more_to : (loaded : Loaded) → Stands b0.faces s0 loaded → AreWalkedTo setting b0 b2 s0 s3 loaded

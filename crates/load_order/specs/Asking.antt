@@ -39,10 +39,11 @@ IsTaken faces new loaded r o (Err stop) =
     × (IsRead stop → ⊥)
 
 -- One object more, known by a name and by its soname.
-pub record IsAdded (faces : List Face) (name : List ℕ) (x : Obj) (before after : Loading) : Type 0 where
-  pub face : Face
-  pub stands : slice_get faces x.face ≡ Some face
-  pub objs : after.objs ≡ before.objs ++ x ∷ []
-  pub known : after.known ≡ before.known ++ (soname_names face.soname ++ name ∷ []) ∷ []
-  pub targets : after.targets ≡ before.targets
-  pub phase : after.phase ≡ before.phase
+pub record IsAdded (faces : List Face) (name : List ℕ) (x : Obj) (before after : Loading) : Type 0
+  where
+    pub face : Face
+    pub stands : slice_get faces x.face ≡ Some face
+    pub objs : after.objs ≡ before.objs ++ x ∷ []
+    pub known : after.known ≡ before.known ++ (soname_names face.soname ++ name ∷ []) ∷ []
+    pub targets : after.targets ≡ before.targets
+    pub phase : after.phase ≡ before.phase

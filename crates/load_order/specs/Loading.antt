@@ -17,7 +17,8 @@ use Rattle.search_paths.specs.declared.hits.SearchStop.TheVariants.{RelativeItem
 use Rattle.load_order.specs.declared.stops.LoadStop.{LoadStop}
 use Rattle.load_order.specs.declared.stops.LoadStop.TheVariants.{NoProgram as StartsNothing, MissingLibrary as Misses, RelativeNeed as NeedsRelative, TokenInNeed as NeedsToken, TooManyObjects as Overflows, Search, NoMemory}
 
--- What a stop of a search says of the load list: nothing for want of memory and for a read that failed.
+-- What a stop of a search says of the load list: nothing for want of memory and for a read that
+-- failed.
 abbrev pub searched_refusal : SearchStop → Option LoadRefusal
 searched_refusal (StopsRelative item) = Some (RelativeItem item)
 searched_refusal (StopsUnset item) = Some (TokenUnset item)
@@ -45,10 +46,12 @@ abbrev pub IsRefusedBy : (LoadRefusal → Type 0) → Option LoadRefusal → Typ
 IsRefusedBy stopped None = Unit {0}
 IsRefusedBy stopped (Some refusal) = stopped refusal
 
-abbrev pub IsLoadAnswer : Setting → OpenerView → OpenerView → List ℕ → List (List ℕ) → Result Run LoadStop → Type 0
+abbrev pub IsLoadAnswer : Setting → OpenerView → OpenerView → List ℕ → List (List ℕ)
+    → Result Run LoadStop → Type 0
 IsLoadAnswer setting before after start opens (Ok run) =
     IsRunOver after.faces run × HasSmallLoaders run × (run.opens ≡ opens)
     × WhereTold before.told (λ world. Loads face_or_flaw setting world after.faces start opens run)
 IsLoadAnswer setting before after start opens (Err stop) =
-    WhereTold before.told (λ world. IsRefusedBy (IsStopped face_or_flaw setting world start opens) (refusal_of stop))
+    WhereTold before.told (λ world. IsRefusedBy (IsStopped face_or_flaw setting world start opens)
+    (refusal_of stop))
     × (IsRead stop → Rose before.faults after.faults)

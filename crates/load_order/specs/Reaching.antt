@@ -21,13 +21,16 @@ pub record IsReach (targets : List (List ℕ)) (root : ℕ) (ks : List ℕ) : Ty
   pub brought : (i : ℕ) → i < length ks → i < length (reached_in targets root (take i ks))
 
 -- The local list of each root.
-pub record AreReaches (targets : List (List ℕ)) (roots : List ℕ) (lists : List (List ℕ)) : Type 0 where
-  pub count : length lists ≡ length roots
-  pub below : All (AreBelow (length targets)) lists
-  pub each : (k root : ℕ) (ks : List ℕ) → slice_get roots k ≡ Some root → slice_get lists k ≡ Some ks → IsReach targets root ks
+pub record AreReaches (targets : List (List ℕ)) (roots : List ℕ) (lists : List (List ℕ)) : Type 0
+  where
+    pub count : length lists ≡ length roots
+    pub below : All (AreBelow (length targets)) lists
+    pub each : (k root : ℕ) (ks : List ℕ) → slice_get roots k ≡ Some root
+        → slice_get lists k ≡ Some ks → IsReach targets root ks
 
 -- The run that is made of a load at its end.
-pub record IsMadeOf (s : Loading) (count : ℕ) (names : List (List ℕ)) (numbers : List ℕ) (run : Run) : Type 0 where
+pub record IsMadeOf (s : Loading) (count : ℕ) (names : List (List ℕ)) (numbers : List ℕ)
+    (run : Run) : Type 0 where
   pub objs : run.objs ≡ s.objs
   pub targets : run.targets ≡ s.targets
   pub global : run.global ≡ count

@@ -20,14 +20,18 @@ use Rattle.load_order.specs.Loading.{IsRead, IsRefusedBy, refusal_of}
 use Rattle.load_order.specs.declared.loading.Loading.{Loading}
 use Rattle.load_order.specs.declared.stops.LoadStop.{LoadStop}
 
--- These objects, and these requests with their targets, are what is loaded: the objects with what a loader sees of each,
--- each known by its names, each with its loader; each but the program is the target of a request.
+-- These objects, and these requests with their targets, are what is loaded: the objects with what a
+-- loader sees of each, each known by its names, each with its loader; each but the program is the
+-- target of a request.
 pub record Stands (faces : List Face) (s : Loading) (loaded : Loaded) : Type 0 where
   pub objects : AreObjects faces s.objs loaded.objs
-  pub names : (j : ℕ) (known : List (List ℕ)) (o : Object) (n : List ℕ) → slice_get s.known j ≡ Some known → slice_get loaded.objs j ≡ Some o → has_name n known ≡ is_known loaded.log n j o
+  pub names : (j : ℕ) (known : List (List ℕ)) (o : Object) (n : List ℕ)
+      → slice_get s.known j ≡ Some known → slice_get loaded.objs j ≡ Some o
+      → has_name n known ≡ is_known loaded.log n j o
   pub loaders : (j : ℕ) (x : Obj) → slice_get s.objs j ≡ Some x → x.loader ≡ loader_of loaded.log j
   pub within : All (λ a. a.target < length loaded.objs) loaded.log
-  pub brought : (j : ℕ) → 0 < j → j < length loaded.objs → list_any (λ a. a.target == j) loaded.log ≡ true
+  pub brought : (j : ℕ) → 0 < j → j < length loaded.objs
+      → list_any (λ a. a.target == j) loaded.log ≡ true
 
 -- All numbers are in range, whatever was read.
 pub record IsSafe (faces : List Face) (s : Loading) : Type 0 where
@@ -40,7 +44,9 @@ pub record IsSafe (faces : List Face) (s : Loading) : Type 0 where
   pub phases : All (λ x. x.phase ≤ s.phase) s.objs
   pub walked : length s.targets ≤ length s.objs
   pub targets : All (AreBelow (length s.objs)) s.targets
-  pub counts : (k : ℕ) (x : Obj) (face : Face) (ts : List ℕ) → slice_get s.objs k ≡ Some x → slice_get faces x.face ≡ Some face → slice_get s.targets k ≡ Some ts → length ts ≡ length face.needs
+  pub counts : (k : ℕ) (x : Obj) (face : Face) (ts : List ℕ) → slice_get s.objs k ≡ Some x
+      → slice_get faces x.face ≡ Some face → slice_get s.targets k ≡ Some ts
+      → length ts ≡ length face.needs
 
 -- A request leaves the objects so far at their numbers, the targets and the phase.
 pub record IsAsking (before after : Loading) : Type 0 where
@@ -48,7 +54,8 @@ pub record IsAsking (before after : Loading) : Type 0 where
   pub longer : length before.objs ≤ length after.objs
   pub targets : after.targets ≡ before.targets
   pub phase : after.phase ≡ before.phase
-  pub new_phase : (j : ℕ) (x : Obj) → length before.objs ≤ j → slice_get after.objs j ≡ Some x → x.phase ≡ before.phase
+  pub new_phase : (j : ℕ) (x : Obj) → length before.objs ≤ j → slice_get after.objs j ≡ Some x
+      → x.phase ≡ before.phase
 
 -- A walk leaves the objects and targets so far, and asks for the needs of all objects.
 pub record IsWalking (before after : Loading) : Type 0 where
@@ -57,7 +64,8 @@ pub record IsWalking (before after : Loading) : Type 0 where
   pub targets : take (length before.targets) after.targets ≡ before.targets
   pub all : length after.targets ≡ length after.objs
   pub phase : after.phase ≡ before.phase
-  pub new_phase : (j : ℕ) (x : Obj) → length before.objs ≤ j → slice_get after.objs j ≡ Some x → x.phase ≡ before.phase
+  pub new_phase : (j : ℕ) (x : Obj) → length before.objs ≤ j → slice_get after.objs j ≡ Some x
+      → x.phase ≡ before.phase
 
 -- The path of the program.
 abbrev pub start_path : Loaded → List ℕ
@@ -68,47 +76,68 @@ abbrev pub number_of : Loaded → Found → ℕ
 number_of loaded (Known j) = j
 number_of loaded (Brought o) = length loaded.objs
 
--- What asking for a name answers: the object that the request goes to, or the stop of the list there.
-abbrev pub IsAskedFor : Setting → OpenerView → OpenerView → Loading → Loaded → Request → Result ℕ LoadStop → Type 0
+-- What asking for a name answers: the object that the request goes to, or the stop of the list
+-- there.
+abbrev pub IsAskedFor : Setting → OpenerView → OpenerView → Loading → Loaded → Request
+    → Result ℕ LoadStop → Type 0
 IsAskedFor setting before after new loaded r (Ok t) =
-    (found : Found) × (t ≡ number_of loaded found) × Stands after.faces new (with_found loaded r found)
-    × WhereTold before.told (λ world. goes_to face_or_flaw setting world (start_path loaded) loaded.objs loaded.log r ≡ Ok found)
+    (found : Found) × (t ≡ number_of loaded found)
+    × Stands after.faces new (with_found loaded r found)
+    × WhereTold before.told (λ world. goes_to face_or_flaw setting world (start_path loaded)
+    loaded.objs loaded.log r ≡ Ok found)
 IsAskedFor setting before after new loaded r (Err stop) =
-    WhereTold before.told (λ world. IsRefusedBy (λ refusal. goes_to face_or_flaw setting world (start_path loaded) loaded.objs loaded.log r ≡ Err refusal) (refusal_of stop))
+    WhereTold before.told (λ world. IsRefusedBy (λ refusal. goes_to face_or_flaw setting world
+    (start_path loaded) loaded.objs loaded.log r ≡ Err refusal) (refusal_of stop))
     × (IsRead stop → Rose before.faults after.faults)
 
 -- The requests for the needs of objects from a number on, each with its target.
 abbrev pub asked_to : ℕ → List (List ℕ) → List ℕ → List Asked
 asked_to k [] ts = []
 asked_to k (n ∷ ns) [] = []
-asked_to k (n ∷ ns) (t ∷ ts) = record { request = record { by = k; name = n }; target = t } ∷ asked_to k ns ts
+asked_to k (n ∷ ns) (t ∷ ts) =
+    record { request = record { by = k; name = n }; target = t } ∷ asked_to k ns ts
 
-abbrev pub needs_to : ℕ → List Object → List (List ℕ) → List Asked
-needs_to k [] tss = []
-needs_to k (o ∷ os) [] = []
-needs_to k (o ∷ os) (ts ∷ tss) = asked_to k o.face.needs ts ++ needs_to (suc k) os tss
+abbrev pub needs_asked : ℕ → List Object → List (List ℕ) → List Asked
+needs_asked k [] tss = []
+needs_asked k (o ∷ os) [] = []
+needs_asked k (o ∷ os) (ts ∷ tss) = asked_to k o.face.needs ts ++ needs_asked (suc k) os tss
 
--- What a walk from the first object whose needs are not asked for answers: what is loaded at the end of the phase, or the
--- stop of the list there. `more` bounds the number of objects that are walked.
-pub record IsWalkedTo (setting : Setting) (before after : OpenerView) (old new : Loading) (loaded : Loaded) : Type 0 where
+-- What a walk from the first object whose needs are not asked for answers: what is loaded at the
+-- end of the phase, or the stop of the list there. `more` bounds the number of objects that are
+-- walked.
+pub record IsWalkedTo (setting : Setting) (before after : OpenerView) (old new : Loading)
+    (loaded : Loaded) : Type 0 where
   pub end : Loaded
   pub stands : Stands after.faces new end
-  pub log : end.log ≡ loaded.log ++ needs_to (length old.targets) (drop (length old.targets) end.objs) (drop (length old.targets) new.targets)
-  pub recursion : (more : ℕ) → MOST_OBJECTS ≤ length old.targets + more → WhereTold before.told (λ world. walk (goes_to face_or_flaw setting world (start_path loaded)) more (length old.targets) loaded ≡ Ok end)
+  pub log : end.log ≡ loaded.log
+      ++ needs_asked (length old.targets) (drop (length old.targets) end.objs)
+      (drop (length old.targets) new.targets)
+  pub recursion : (more : ℕ) → MOST_OBJECTS ≤ length old.targets + more
+      → WhereTold before.told
+      (λ world. walk (goes_to face_or_flaw setting world (start_path loaded)) more
+      (length old.targets) loaded ≡ Ok end)
 
-abbrev pub IsWalked : Setting → OpenerView → OpenerView → Loading → Loading → Loaded → Result Unit LoadStop → Type 0
-IsWalked setting before after old new loaded (Ok done) = IsWalkedTo setting before after old new loaded
+abbrev pub IsWalked : Setting → OpenerView → OpenerView → Loading → Loading → Loaded
+    → Result Unit LoadStop → Type 0
+IsWalked setting before after old new loaded (Ok done) =
+    IsWalkedTo setting before after old new loaded
 IsWalked setting before after old new loaded (Err stop) =
-    ((more : ℕ) → MOST_OBJECTS ≤ length old.targets + more → WhereTold before.told (λ world. IsRefusedBy (λ refusal. walk (goes_to face_or_flaw setting world (start_path loaded)) more (length old.targets) loaded ≡ Err refusal) (refusal_of stop)))
+    ((more : ℕ) → MOST_OBJECTS ≤ length old.targets + more
+    → WhereTold before.told
+    (λ world. IsRefusedBy
+    (λ refusal. walk (goes_to face_or_flaw setting world (start_path loaded)) more
+    (length old.targets) loaded ≡ Err refusal) (refusal_of stop)))
     × (IsRead stop → Rose before.faults after.faults)
 
 -- The load list of the program alone, or why it does not start.
 abbrev pub IsStarted : Setting → OpenerView → OpenerView → List ℕ → Result Loading LoadStop → Type 0
 IsStarted setting before after path (Ok s) =
-    (program : Object) × (program.path ≡ path) × Stands after.faces s (record { objs = program ∷ []; log = [] })
+    (program : Object) × (program.path ≡ path)
+    × Stands after.faces s (record { objs = program ∷ []; log = [] })
     × WhereTold before.told (λ world. program_at face_or_flaw setting world path ≡ Ok program)
 IsStarted setting before after path (Err stop) =
-    WhereTold before.told (λ world. IsRefusedBy (λ refusal. program_at face_or_flaw setting world path ≡ Err refusal) (refusal_of stop))
+    WhereTold before.told (λ world. IsRefusedBy (λ refusal. program_at face_or_flaw setting world
+    path ≡ Err refusal) (refusal_of stop))
     × (IsRead stop → Rose before.faults after.faults)
 
 -- The program alone, no need asked for, in the start phase.

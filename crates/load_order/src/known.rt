@@ -48,7 +48,8 @@ impl Known {
     /// Adds a name by which an object is known.
     pub fn learn(&mut self, alloc: Global, number: usize, name: &Name) -> Result<(), NoMemory>
         requires { number < length self.old }
-        ensures { OnOk result (self.new ≡ slice_set self.old number (slice_index_or self.old number []
+        ensures { OnOk result
+            (self.new ≡ slice_set self.old number (slice_index_or self.old number []
             ++ name.now ∷ [])) }
     {
         let copy = name.copy(alloc)?;

@@ -9,8 +9,8 @@ use load_model::{List, Name, Obj};
 use path_text::{Abs, NoMemory};
 use std::alloc::Global;
 
-/// The objects so far, the names by which they are known, where the needs of the first of them went,
-/// and the number of the phase.
+/// The objects so far, the names by which they are known, where the needs of the first of them
+/// went, and the number of the phase.
 #[derive(Drop)]
 pub struct Loading {
     pub objs: List<Obj>,

@@ -7,7 +7,7 @@ ghost use Rattle.std.specs.Prelude.{◌≡◌, ◌<◌, ◌≤◌, List as Seque
 ghost use Rattle.load_model.specs.LoadList.{Loaded, Object};
 ghost use Rattle.load_model.specs.Opening.{OnlyGrew};
 ghost use Rattle.load_model.specs.Runs.{AreBelow};
-ghost use Rattle.load_order.specs.Ending.{IsEnded, IsOpening, IsOpeningAll, IsPhaseMore, IsReady};
+ghost use Rattle.load_order.specs.Ending.{IsLoadEnd, IsOpening, IsOpeningAll, IsPhaseMore, IsReady};
 ghost use Rattle.load_order.specs.Loading.{IsLoadAnswer};
 ghost use Rattle.load_order.specs.Reaching.{IsMadeOf};
 ghost use Rattle.load_order.specs.Standing.{IsSafe, Stands};
@@ -69,7 +69,7 @@ fn open_all<P: Opener>(
         roots) }
     ensures answer { (path : Sequence ℕ) (program : Object) (loaded : Loaded)
         (ends : Sequence Loaded)
-        → IsEnded setting.now (P.seen opener.old).told (P.seen opener.old).faces path program []
+        → IsLoadEnd setting.now (P.seen opener.old).told (P.seen opener.old).faces path program []
         loading.old [] loaded ends
         → IsOpeningAll setting.now (P.seen opener.old) (P.seen opener.new) path program opens.now
         loading.new ends result }

@@ -1,8 +1,8 @@
 //! Where a request goes: to an object that is known by the name, to the object that is the file
 //! found, or to this file.
 //!
-//! ld.so(8). Where requests go is said in `specs/Loads.antt` of `load_model`, the answers of the steps
-//! in `specs/Asking.antt`.
+//! ld.so(8). Where requests go is said in `specs/Loads.antt` of `load_model`, the answers of the
+//! steps in `specs/Asking.antt`.
 
 ghost use Rattle.std.specs.Prelude.{◌≡◌, ◌<◌, IfOk, List, OnOk, Some, length, slice_get};
 ghost use Rattle.load_model.specs.Candidates.{asker_path, has_dollar, is_relative};

@@ -6,8 +6,8 @@ ghost use Rattle.path_text.specs.FileName.{IsFileName, is_file_name_text, is_nam
 
 use crate::scan::{is_idle, is_parent};
 
-/// Whether the text is a name that a file can be given: not empty, `.` or `..`, with no `/`, no `$`,
-/// no byte below 32 and no byte 127.
+/// Whether the text is a name that a file can be given: not empty, `.` or `..`, with no `/`, no
+/// `$`, no byte below 32 and no byte 127.
 pub fn is_file_name(text: &[u8]) -> bool
     ensures name { IsTrue result ↔ (IsFileName text.now) }
     ensures value { result ≡ is_file_name_text text.now }

@@ -27,22 +27,34 @@ empty_folder = record { finished = []; pending = None; roots = [] }
 
 -- after a root was opened, which gives up the open file
 abbrev pub with_root : List ℕ → Folder → Folder
-with_root path folder = record { finished = folder.finished; pending = None; roots = folder.roots ++ path ∷ [] }
+with_root path folder =
+    record { finished = folder.finished; pending = None; roots = folder.roots ++ path ∷ [] }
 
 abbrev pub empty_file : List ℕ → Bool → MemFile
 empty_file path executable = record { path = path; executable = executable; bytes = [] }
 
 -- after a file with this path and mark was begun
 abbrev pub begun : List ℕ → Bool → Folder → Folder
-begun path executable folder = record { finished = folder.finished; pending = Some (empty_file path executable); roots = folder.roots }
+begun path executable folder =
+    record {
+      finished = folder.finished;
+      pending = Some (empty_file path executable);
+      roots = folder.roots;
+    }
 
 -- the file with a piece at its end
 abbrev pub grown_file : List ℕ → MemFile → MemFile
-grown_file piece file = record { path = file.path; executable = file.executable; bytes = file.bytes ++ piece }
+grown_file piece file =
+    record { path = file.path; executable = file.executable; bytes = file.bytes ++ piece }
 
 -- after a piece was added to the open file
 abbrev pub grown : List ℕ → Folder → Folder
-grown piece folder = record { finished = folder.finished; pending = option_map (grown_file piece) folder.pending; roots = folder.roots }
+grown piece folder =
+    record {
+      finished = folder.finished;
+      pending = option_map (grown_file piece) folder.pending;
+      roots = folder.roots;
+    }
 
 abbrev pub file_list : Option MemFile → List MemFile
 file_list (Some file) = file ∷ []
@@ -50,11 +62,18 @@ file_list None = []
 
 -- after the open file was finished
 abbrev pub closed : Folder → Folder
-closed folder = record { finished = folder.finished ++ file_list folder.pending; pending = None; roots = folder.roots }
+closed folder =
+    record {
+      finished = folder.finished
+          ++ file_list folder.pending;
+      pending = None;
+      roots = folder.roots;
+    }
 
 -- after these files were written whole
 abbrev pub with_files : List MemFile → Folder → Folder
-with_files files folder = record { finished = folder.finished ++ files; pending = None; roots = folder.roots }
+with_files files folder =
+    record { finished = folder.finished ++ files; pending = None; roots = folder.roots }
 
 -- these files were added at the end, and no root was opened
 pub record Added (files : List MemFile) (old now : Folder) : Type 0 where

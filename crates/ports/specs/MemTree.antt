@@ -16,7 +16,8 @@ world_of files = map world_file files
 
 -- a file has the path, or it has the identity and other bytes
 abbrev pub clashes : List ℕ → List ℕ → List ℕ → WorldFile → Bool
-clashes path id bytes file = bytes_eq file.path path || (bytes_eq file.id id && not (bytes_eq file.bytes bytes))
+clashes path id bytes file =
+    bytes_eq file.path path || (bytes_eq file.id id && not (bytes_eq file.bytes bytes))
 
 -- the path is in the world, or the identity is with other bytes
 abbrev pub is_taken : World → List ℕ → List ℕ → List ℕ → Bool
@@ -29,5 +30,7 @@ with_last world path id bytes = world ++ (record { path = path; id = id; bytes =
 -- a world, with equations alone: a path that reads as it is is normal
 pub record IsStored (world : World) : Type 0 where
   pub paths : All (λ file. path_of file.path ≡ Ok file.path) world
-  pub distinct : (i j : ℕ) (f g : WorldFile) → slice_get world i ≡ Some f → slice_get world j ≡ Some g → f.path ≡ g.path → i ≡ j
-  pub same_bytes : (i j : ℕ) (f g : WorldFile) → slice_get world i ≡ Some f → slice_get world j ≡ Some g → f.id ≡ g.id → f.bytes ≡ g.bytes
+  pub distinct : (i j : ℕ) (f g : WorldFile) → slice_get world i ≡ Some f
+      → slice_get world j ≡ Some g → f.path ≡ g.path → i ≡ j
+  pub same_bytes : (i j : ℕ) (f g : WorldFile) → slice_get world i ≡ Some f
+      → slice_get world j ≡ Some g → f.id ≡ g.id → f.bytes ≡ g.bytes

@@ -24,4 +24,5 @@ bytes_at world path = bytes_of (file_at world path)
 
 -- where the tree tells its world, the path is a file of this length in it
 abbrev pub IsToldLength : Option World → List ℕ → ℕ → Type 0
-IsToldLength told path len = WhereTold told (λ world. option_map (λ file. length file.bytes) (file_at world path) ≡ Some len)
+IsToldLength told path len =
+    WhereTold told (λ world. option_map (λ file. length file.bytes) (file_at world path) ≡ Some len)

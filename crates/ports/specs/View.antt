@@ -18,7 +18,8 @@ Stays before after = after.told ≡ before.told
 
 -- where it told something before, it tells something now, and the two are so related
 abbrev pub Changed : {A : Type 0} → (A → A → Type 0) → View A → View A → Type 0
-Changed {A} P before after = WhereTold before.told (λ old. (latest : A) × (after.told ≡ Some latest) × P old latest)
+Changed {A} P before after =
+    WhereTold before.told (λ old. (latest : A) × (after.told ≡ Some latest) × P old latest)
 
 -- the count of faults fell in no case, and it rose where the call failed
 pub record HasCause {V A E : Type 0} (before after : View V) (result : Result A E) : Type 0 where

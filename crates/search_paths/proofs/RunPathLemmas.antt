@@ -13,7 +13,7 @@ use Rattle.load_model.specs.declared.faces.Face.{Face}
 use Rattle.load_model.specs.declared.runs.Obj.{Obj}
 use Rattle.std.specs.Prelude.{slice_get}
 use Rattle.path_text.specs.Path.{folder_of}
-use Rattle.load_model.specs.Candidates.{chain, chain_items, items_by, items_held, own_items, rpath_by, rpath_items}
+use Rattle.load_model.specs.Candidates.{loader_chain, chain_items, items_by, items_held, own_items, rpath_by, rpath_items}
 use Rattle.load_model.specs.LoadList.{Object}
 use Rattle.load_model.specs.RunPaths.{Item, items_of, texts_of}
 use Rattle.load_model.specs.declared.setting.Setting.{Setting}
@@ -39,18 +39,18 @@ kept_more setting path text old held is =
 abbrev pub Falls : (ℕ → ℕ) → ℕ → Type 0
 Falls loader bound = (j : ℕ) → 0 < j → j < bound → loader j < j
 
-pub chain_top : (loader : ℕ → ℕ) (m : ℕ) → chain m loader 0 ≡ 0 ∷ []
-unfolding chain
+pub chain_top : (loader : ℕ → ℕ) (m : ℕ) → loader_chain m loader 0 ≡ 0 ∷ []
+unfolding loader_chain
 chain_top loader zero = refl
 chain_top loader (suc m) = refl
 
-one_more : (loader : ℕ → ℕ) (m j : ℕ) → 0 < j → chain (suc m) loader j ≡ j ∷ chain m loader (loader j)
-unfolding chain
+one_more : (loader : ℕ → ℕ) (m j : ℕ) → 0 < j → loader_chain (suc m) loader j ≡ j ∷ loader_chain m loader (loader j)
+unfolding loader_chain
 one_more loader m zero some = absurd (omega (arith, some))
-one_more loader m (suc j) some = ap (λ b. cond b (0 ∷ []) (suc j ∷ chain m loader (loader (suc j)))) (ne_eqb (suc j) 0 (λ e. omega (arith, e)))
+one_more loader m (suc j) some = ap (λ b. cond b (0 ∷ []) (suc j ∷ loader_chain m loader (loader (suc j)))) (ne_eqb (suc j) 0 (λ e. omega (arith, e)))
 
 -- how much may be taken does not matter, where it is enough
-same_chain : (loader : ℕ → ℕ) (bound n m j : ℕ) → Falls loader bound → j < bound → j ≤ n → j ≤ m → chain n loader j ≡ chain m loader j
+same_chain : (loader : ℕ → ℕ) (bound n m j : ℕ) → Falls loader bound → j < bound → j ≤ n → j ≤ m → loader_chain n loader j ≡ loader_chain m loader j
 same_chain loader bound n m zero falls within hn hm = chain_top loader n ∙ sym (chain_top loader m)
 same_chain loader bound zero m (suc j) falls within hn hm = absurd (omega (arith, hn))
 same_chain loader bound (suc n) zero (suc j) falls within hn hm = absurd (omega (arith, hm))
@@ -61,14 +61,14 @@ same_chain loader bound (suc n) (suc m) (suc j) falls within hn hm =
     ∙ sym (one_more loader m (suc j) (omega arith))
 
 -- one step along the chain
-pub chain_step : (loader : ℕ → ℕ) (bound j : ℕ) → Falls loader bound → j < bound → 0 < j → chain j loader j ≡ j ∷ chain (loader j) loader (loader j)
+pub chain_step : (loader : ℕ → ℕ) (bound j : ℕ) → Falls loader bound → j < bound → 0 < j → loader_chain j loader j ≡ j ∷ loader_chain (loader j) loader (loader j)
 chain_step loader bound zero falls within some = absurd (omega (arith, some))
 chain_step loader bound (suc j) falls within some =
     let below : loader (suc j) < suc j = falls (suc j) some within in
     one_more loader j (suc j) some
     ∙ ap (λ ks. suc j ∷ ks) (same_chain loader bound j (loader (suc j)) (loader (suc j)) falls (omega (arith, below, within)) (omega (arith, below)) (omega arith))
 
-pub chain_whole : (loader : ℕ → ℕ) (bound j : ℕ) → Falls loader bound → j < bound → chain j loader j ≡ chain bound loader j
+pub chain_whole : (loader : ℕ → ℕ) (bound j : ℕ) → Falls loader bound → j < bound → loader_chain j loader j ≡ loader_chain bound loader j
 chain_whole loader bound j falls within = same_chain loader bound j bound j falls within (omega arith) (omega (arith, within))
 
 -- what is kept of the objects so far, and those along the chain from an object on
@@ -77,7 +77,7 @@ module _ (setting : Setting) (objects : List Object) (loader : ℕ → ℕ) wher
   along ks = flat_map (λ k. rpath_items setting (slice_get objects k)) ks
 
   -- the last object of the chain
-  pub kept_last : (before held : List Item) (o : Object) → slice_get objects 0 ≡ Some o → held ≡ before ++ rpath_items setting (Some o) → before ++ along (chain 0 loader 0) ≡ held
+  pub kept_last : (before held : List Item) (o : Object) → slice_get objects 0 ≡ Some o → held ≡ before ++ rpath_items setting (Some o) → before ++ along (loader_chain 0 loader 0) ≡ held
   kept_last before held o is more =
       ap (λ ks. before ++ along ks) (chain_top loader 0)
       ∙ ap (λ is. before ++ is) (append-nil (rpath_items setting (slice_get objects 0)))
@@ -86,12 +86,12 @@ module _ (setting : Setting) (objects : List Object) (loader : ℕ → ℕ) wher
 
   -- one object further
   pub kept_next : (bound j : ℕ) (before held : List Item) (o : Object) → Falls loader bound → j < bound → 0 < j → slice_get objects j ≡ Some o → held ≡ before ++ rpath_items setting (Some o)
-      → before ++ along (chain j loader j) ≡ held ++ along (chain (loader j) loader (loader j))
+      → before ++ along (loader_chain j loader j) ≡ held ++ along (loader_chain (loader j) loader (loader j))
   kept_next bound j before held o falls within some is more =
       ap (λ ks. before ++ along ks) (chain_step loader bound j falls within some)
-      ∙ ap (λ x. before ++ (rpath_items setting x ++ along (chain (loader j) loader (loader j)))) is
-      ∙ sym (append_assoc before (rpath_items setting (Some o)) (along (chain (loader j) loader (loader j))))
-      ∙ ap (λ is. is ++ along (chain (loader j) loader (loader j))) (sym more)
+      ∙ ap (λ x. before ++ (rpath_items setting x ++ along (loader_chain (loader j) loader (loader j)))) is
+      ∙ sym (append_assoc before (rpath_items setting (Some o)) (along (loader_chain (loader j) loader (loader j))))
+      ∙ ap (λ is. is ++ along (loader_chain (loader j) loader (loader j))) (sym more)
 
 -- ---- objects of a table
 
@@ -134,27 +134,27 @@ rpath_more (Ok v) path rpath face old held none some h = λ setting o at f.
 
 module _ (faces : List Face) (objs : List Obj) (setting : Setting) (objects : List Object) (are : AreObjects faces objs objects) where
   pub chain_start : (from : ℕ) (held : List HeldItem) → Falls (loader_by objs) (length objs) → from < length objs → held ≡ []
-      → chain_items setting objects (loader_by objs) from ≡ items_kept setting held ++ along setting objects (loader_by objs) (chain from (loader_by objs) from)
+      → chain_items setting objects (loader_by objs) from ≡ items_kept setting held ++ along setting objects (loader_by objs) (loader_chain from (loader_by objs) from)
   chain_start from held f within empty =
-      ap (λ n. along setting objects (loader_by objs) (chain n (loader_by objs) from)) are.count
+      ap (λ n. along setting objects (loader_by objs) (loader_chain n (loader_by objs) from)) are.count
       ∙ ap (along setting objects (loader_by objs)) (sym (chain_whole (loader_by objs) (length objs) from f within))
-      ∙ ap (λ h. items_kept setting h ++ along setting objects (loader_by objs) (chain from (loader_by objs) from)) (sym empty)
+      ∙ ap (λ h. items_kept setting h ++ along setting objects (loader_by objs) (loader_chain from (loader_by objs) from)) (sym empty)
 
   pub chain_end : (j : ℕ) (x : Obj) (face : Face) (before held : List HeldItem) → j ≡ 0 → j < length objs → x ≡ get_or objs j x → x.face < length faces → face ≡ get_or faces x.face face
       → ((o : Object) → o.path ≡ x.path → o.face ≡ face → items_kept setting held ≡ items_kept setting before ++ rpath_items setting (Some o))
-      → items_kept setting before ++ along setting objects (loader_by objs) (chain j (loader_by objs) j) ≡ items_kept setting held
+      → items_kept setting before ++ along setting objects (loader_by objs) (loader_chain j (loader_by objs) j) ≡ items_kept setting held
   chain_end j x face before held zero_is within is in_table face_is more =
       let o = object_at faces objs objects j x face are within is in_table face_is in
-      ap (λ n. items_kept setting before ++ along setting objects (loader_by objs) (chain n (loader_by objs) n)) zero_is
+      ap (λ n. items_kept setting before ++ along setting objects (loader_by objs) (loader_chain n (loader_by objs) n)) zero_is
       ∙ kept_last setting objects (loader_by objs) (items_kept setting before) (items_kept setting held) o.0 (ap (slice_get objects) (sym zero_is) ∙ o.1) (more o.0 o.2 o.3)
 
   pub chain_on : (j : ℕ) (x : Obj) (face : Face) (before held : List HeldItem) → Falls (loader_by objs) (length objs) → 0 < j → j < length objs → x ≡ get_or objs j x → x.face < length faces → face ≡ get_or faces x.face face
       → ((o : Object) → o.path ≡ x.path → o.face ≡ face → items_kept setting held ≡ items_kept setting before ++ rpath_items setting (Some o))
-      → items_kept setting before ++ along setting objects (loader_by objs) (chain j (loader_by objs) j) ≡ items_kept setting held ++ along setting objects (loader_by objs) (chain x.loader (loader_by objs) x.loader)
+      → items_kept setting before ++ along setting objects (loader_by objs) (loader_chain j (loader_by objs) j) ≡ items_kept setting held ++ along setting objects (loader_by objs) (loader_chain x.loader (loader_by objs) x.loader)
   chain_on j x face before held f some within is in_table face_is more =
       let o = object_at faces objs objects j x face are within is in_table face_is in
       kept_next setting objects (loader_by objs) (length objs) j (items_kept setting before) (items_kept setting held) o.0 f within some o.1 (more o.0 o.2 o.3)
-      ∙ ap (λ k. items_kept setting held ++ along setting objects (loader_by objs) (chain k (loader_by objs) k)) (loader_at objs j x within is)
+      ∙ ap (λ k. items_kept setting held ++ along setting objects (loader_by objs) (loader_chain k (loader_by objs) k)) (loader_at objs j x within is)
 
   own_by_runpath : (loader : ℕ → ℕ) (from : ℕ) (o : Object) (runpath : List ℕ) → slice_get objects from ≡ Some o → o.face.runpath ≡ Some runpath
       → items_held setting o.path (Some runpath) ≡ own_items setting objects loader from (slice_get objects from)

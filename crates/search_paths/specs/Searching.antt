@@ -28,27 +28,35 @@ pub record AreSearchable (faces : List Face) (objs : List Obj) (asker : ℕ) : T
   pub others : (j : ℕ) (x : Obj) → 0 < j → slice_get objs j ≡ Some x → x.loader < j
 
 -- The object is decided on, and its face stands at this place of the table.
-pub record IsFound (faces : List Face) (decides : Option (Result Object LoadRefusal) → Type 0) (path id : List ℕ) (place : ℕ) : Type 0 where
+pub record IsFound (faces : List Face) (decides : Option (Result Object LoadRefusal) → Type 0)
+    (path id : List ℕ) (place : ℕ) : Type 0 where
   pub face : Face
   pub stands : slice_get faces place ≡ Some face
   pub found : decides (Some (Ok (record { path = path; id = id; face = face })))
 
 -- The answer of a search, where `decides` says of a world what its first decision is.
-abbrev pub IsAnswer : (World → Option (Result Object LoadRefusal) → Type 0) → OpenerView → OpenerView → Result Hit SearchStop → Type 0
+abbrev pub IsAnswer : (World → Option (Result Object LoadRefusal) → Type 0) → OpenerView
+    → OpenerView → Result Hit SearchStop → Type 0
 IsAnswer decides before after (Ok (Found path id place)) =
-    IsPlace after place × WhereTold before.told (λ world. IsFound after.faces (decides world) path id place)
+    IsPlace after place × WhereTold before.told (λ world. IsFound after.faces (decides world) path
+    id place)
 IsAnswer decides before after (Ok Missing) = WhereTold before.told (λ world. decides world None)
-IsAnswer decides before after (Err (StopsRelative item)) = WhereTold before.told (λ world. decides world (Some (Err (RelativeItem item))))
-IsAnswer decides before after (Err (StopsUnset item)) = WhereTold before.told (λ world. decides world (Some (Err (TokenUnset item))))
-IsAnswer decides before after (Err (Open (OpensDamaged path flaw))) = WhereTold before.told (λ world. decides world (Some (Err (Damaged path flaw))))
+IsAnswer decides before after (Err (StopsRelative item)) =
+    WhereTold before.told (λ world. decides world (Some (Err (RelativeItem item))))
+IsAnswer decides before after (Err (StopsUnset item)) =
+    WhereTold before.told (λ world. decides world (Some (Err (TokenUnset item))))
+IsAnswer decides before after (Err (Open (OpensDamaged path flaw))) =
+    WhereTold before.told (λ world. decides world (Some (Err (Damaged path flaw))))
 IsAnswer decides before after (Err (Open Read)) = Rose before.faults after.faults
 IsAnswer decides before after (Err (Open OpensNoMemory)) = Unit {0}
 IsAnswer decides before after (Err NoMemory) = Unit {0}
 
 -- The first decision of these candidates to a loader for the opener's machine.
-abbrev pub Decides : OpenerView → List Candidate → World → Option (Result Object LoadRefusal) → Type 0
+abbrev pub Decides : OpenerView → List Candidate → World → Option (Result Object LoadRefusal)
+    → Type 0
 Decides view cs world decided =
-    (setting : Setting) → setting.machine ≡ view.machine → first_decision face_or_flaw setting world cs ≡ decided
+    (setting : Setting) → setting.machine ≡ view.machine
+    → first_decision face_or_flaw setting world cs ≡ decided
 
 -- No item of a run path stopped the search.
 abbrev pub IsByOpening : SearchStop → Type 0

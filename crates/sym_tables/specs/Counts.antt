@@ -8,4 +8,5 @@ use Rattle.load_model.specs.SymbolFlaws.{differing_counts, no_count, reach_past}
 
 unfoldable pub counts_flaw : Option ℕ → Option ℕ → Option ℕ → Option Flaw
 counts_flaw section hash reach =
-    first_some (no_count (first_count section hash reach) ∷ differing_counts section hash ∷ reach_past (unwrap_or (first_count section hash reach) 0) reach ∷ [])
+    first_some (no_count (first_count section hash reach) ∷ differing_counts section hash ∷
+    reach_past (unwrap_or (first_count section hash reach) 0) reach ∷ [])

@@ -14,7 +14,8 @@ Reaches chains v w = (k : ℕ) × Leads chains k v w
 -- the symbols that are met on the way from one to another
 unfoldable pub IsWay : List ℕ → ℕ → List ℕ → ℕ → Type 0
 IsWay chains first [] end = first ≡ end
-IsWay chains first (v ∷ rest) end = (first ≡ v) × (v ≢ 0) × (v < length chains) × IsWay chains (slice_index chains v) rest end
+IsWay chains first (v ∷ rest) end =
+    (first ≡ v) × (v ≢ 0) × (v < length chains) × IsWay chains (slice_index chains v) rest end
 
 -- the depth of a symbol is known: by so many chain words it leads to 0
 unfoldable pub IsKnown : List ℕ → List ℕ → ℕ → Type 0
@@ -58,7 +59,8 @@ pub record HasNoted (before now : Chains) (at : ℕ) : Type 0 where
   pub words : now.next ≡ before.next
   pub known : Knows now at
   pub kept : KeepsKnown before now
-  pub depth : slice_index now.depths.items at ≡ slice_index before.depths.items (slice_index before.next.items at) + 1
+  pub depth : slice_index now.depths.items at
+      ≡ slice_index before.depths.items (slice_index before.next.items at) + 1
 
 -- the first symbols of all buckets are known
 pub record AreHeadsKnown (c : Chains) (buckets : List ℕ) : Type 0 where

@@ -11,12 +11,20 @@ use Rattle.sym_tables.specs.declared.gnu_front.Front.{Front}
 
 -- the table with these parts and these chain words
 abbrev pub front_table : Front → List ℕ → GnuTable
-front_table f words = record { offset = f.offset; shift = f.shift; bloom = f.bloom.items; buckets = f.buckets.items; words = words }
+front_table f words =
+    record {
+      offset = f.offset;
+      shift = f.shift;
+      bloom = f.bloom.items;
+      buckets = f.buckets.items;
+      words = words;
+    }
 
-pub record IsFoundGnu (f : FoundGnu) (file : List ℕ) (segments : List Segment) (addr : ℕ) : Type 0 where
-  pub table : f.table ≡ gnu_table file segments addr
-  pub reach : f.reach ≡ gnu_reach file segments addr
-  pub range : gnu_place file segments addr ≡ Some f.range
+pub record IsFoundGnu (f : FoundGnu) (file : List ℕ) (segments : List Segment) (addr : ℕ) : Type 0
+  where
+    pub table : f.table ≡ gnu_table file segments addr
+    pub reach : f.reach ≡ gnu_reach file segments addr
+    pub range : gnu_place file segments addr ≡ Some f.range
 
 -- the same where the file has one
 abbrev pub IsGnuAt : Option FoundGnu → List ℕ → List Segment → Option ℕ → Type 0
@@ -32,12 +40,14 @@ words_table w = record { buckets = w.buckets.items; chains = w.chains.items }
 abbrev pub is_linked : SysvTable → Bool
 is_linked t =
     nat_le 1 (length t.buckets)
-    && (list_all (λ w. is_link (length t.chains) w) t.buckets && list_all (λ w. is_link (length t.chains) w) t.chains)
+    && (list_all (λ w. is_link (length t.chains) w) t.buckets
+    && list_all (λ w. is_link (length t.chains) w) t.chains)
 
-pub record IsFoundSysv (f : FoundSysv) (file : List ℕ) (segments : List Segment) (addr : ℕ) : Type 0 where
-  pub table : f.table ≡ sysv_table file segments addr
-  pub sound : is_sysv_sound f.table ≡ true
-  pub range : sysv_place file segments addr ≡ Some f.range
+pub record IsFoundSysv (f : FoundSysv) (file : List ℕ) (segments : List Segment) (addr : ℕ) : Type 0
+  where
+    pub table : f.table ≡ sysv_table file segments addr
+    pub sound : is_sysv_sound f.table ≡ true
+    pub range : sysv_place file segments addr ≡ Some f.range
 
 abbrev pub IsSysvAt : Option FoundSysv → List ℕ → List Segment → Option ℕ → Type 0
 IsSysvAt None file segments at = at ≡ None

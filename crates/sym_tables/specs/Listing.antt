@@ -23,6 +23,7 @@ abbrev pub gnu_of : Option FoundGnu → Option GnuTable
 gnu_of found = option_map (λ f. f.table) found
 
 -- the flaws of the list of symbols, by what was read
-unfoldable pub lists_flaw : ℕ → Option SysvTable → Option GnuTable → List ℕ → List RawSym → Option Flaw
+unfoldable pub lists_flaw : ℕ → Option SysvTable → Option GnuTable → List ℕ → List RawSym
+    → Option Flaw
 lists_flaw size sysv gnu strings symbols =
     first_some (bad_symbol_name size symbols ∷ broken_hash sysv gnu strings symbols ∷ [])

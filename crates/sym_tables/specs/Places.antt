@@ -10,10 +10,11 @@ use Rattle.sym_tables.specs.declared.gnu_front.GnuHeader.{GnuHeader}
 use Rattle.sym_tables.specs.declared.gnu_reach.Reach.{Reach}
 use Rattle.sym_tables.specs.declared.sysv.SysvPlace.{SysvPlace}
 
-pub record IsSysvPlace (p : SysvPlace) (file : List ℕ) (segments : List Segment) (addr : ℕ) : Type 0 where
-  pub place : sysv_place file segments addr ≡ Some (p.from, p.to)
-  pub buckets : p.buckets ≡ nbucket file segments addr
-  pub symbols : p.symbols ≡ nchain file segments addr
+pub record IsSysvPlace (p : SysvPlace) (file : List ℕ) (segments : List Segment) (addr : ℕ) : Type 0
+  where
+    pub place : sysv_place file segments addr ≡ Some (p.from, p.to)
+    pub buckets : p.buckets ≡ nbucket file segments addr
+    pub symbols : p.symbols ≡ nchain file segments addr
 
 -- how many bytes it has, and its words as they stand in the file
 abbrev pub sysv_length : SysvPlace → ℕ
@@ -26,13 +27,14 @@ sysv_words file p = record {
 }
 
 -- the first words of a GNU hash table
-pub record IsGnuHeader (h : GnuHeader) (file : List ℕ) (segments : List Segment) (addr : ℕ) : Type 0 where
-  pub buckets : h.buckets ≡ nbuckets file segments addr
-  pub offset : h.offset ≡ symoffset file segments addr
-  pub bloom : h.bloom ≡ bloom_size file segments addr
-  pub shift : h.shift ≡ bloom_shift file segments addr
-  pub few_buckets : h.buckets < 2 ^ 32
-  pub few_words : h.bloom < 2 ^ 32
+pub record IsGnuHeader (h : GnuHeader) (file : List ℕ) (segments : List Segment) (addr : ℕ) : Type 0
+  where
+    pub buckets : h.buckets ≡ nbuckets file segments addr
+    pub offset : h.offset ≡ symoffset file segments addr
+    pub bloom : h.bloom ≡ bloom_size file segments addr
+    pub shift : h.shift ≡ bloom_shift file segments addr
+    pub few_buckets : h.buckets < 2 ^ 32
+    pub few_words : h.bloom < 2 ^ 32
 
 -- what stands before its chain words
 pub record AreFrontParts (file : List ℕ) (h : GnuHeader) (place : ℕ) (f : Front) : Type 0 where
@@ -62,4 +64,5 @@ pub record IsReachOf (r : Reach) (file : List ℕ) (segments : List Segment) (ad
 -- its last chain does not end, or not where memory has it from the file
 abbrev pub HasNoReach : List ℕ → List Segment → ℕ → Type 0
 HasNoReach file segments addr =
-    (is_some (gnu_place file segments addr) && has_end (gnu_buckets file segments addr) (gnu_reach file segments addr)) ≡ false
+    (is_some (gnu_place file segments addr)
+    && has_end (gnu_buckets file segments addr) (gnu_reach file segments addr)) ≡ false

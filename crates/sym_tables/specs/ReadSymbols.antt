@@ -12,7 +12,8 @@ use Rattle.load_model.specs.declared.symbols.RawSym.{RawSym}
 use Rattle.sym_tables.specs.FoundTables.{IsGnuAt, IsSysvAt}
 use Rattle.sym_tables.specs.declared.tables.Tables.{Tables}
 
--- how many symbols there are, their words by index, and where the hash tables begin and end in the file
+-- how many symbols there are, their words by index, and where the hash tables begin and end in the
+-- file
 pub record Symbols : Type 0 where
   pub count : ℕ
   pub raw : List RawSym
@@ -28,13 +29,17 @@ pub record IsSymsOf (s : Symbols) (file : List ℕ) : Type 0 where
   pub gnu_range : s.gnu_range ≡ gnu_range file
 
 -- the hash tables are those that the dynamic table names
-pub record AreHashTablesOf (t : Tables) (file : List ℕ) (segments : List Segment) (entries : List Entry) : Type 0 where
+pub record AreHashTablesOf (t : Tables) (file : List ℕ) (segments : List Segment)
+    (entries : List Entry) : Type 0 where
   pub sysv : IsSysvAt t.sysv file segments (value_of DT_HASH entries)
   pub gnu : IsGnuAt t.gnu file segments (value_of DT_GNU_HASH entries)
 
 -- the same over headers and dynamic entries
-pub record AreSymsBy (s : Symbols) (file : List ℕ) (segments : List Segment) (entries : List Entry) : Type 0 where
+pub record AreSymsBy (s : Symbols) (file : List ℕ) (segments : List Segment)
+    (entries : List Entry) : Type 0 where
   pub count : s.count ≡ count_by file segments entries
   pub raw : s.raw ≡ symbols_by file segments entries
-  pub hash_range : s.hash_range ≡ option_and_then (λ addr. sysv_place file segments addr) (value_of DT_HASH entries)
-  pub gnu_range : s.gnu_range ≡ option_and_then (λ addr. gnu_place file segments addr) (value_of DT_GNU_HASH entries)
+  pub hash_range : s.hash_range
+      ≡ option_and_then (λ addr. sysv_place file segments addr) (value_of DT_HASH entries)
+  pub gnu_range : s.gnu_range
+      ≡ option_and_then (λ addr. gnu_place file segments addr) (value_of DT_GNU_HASH entries)

@@ -11,7 +11,8 @@ has_end_between words b k = list_any is_last (take (k - b) (drop b words))
 -- for each word, the place from which on no word before it ends a chain
 pub record AreStarts (starts words : List ℕ) : Type 0 where
   pub same : length starts ≡ length words
-  pub each : (k b : ℕ) → k < length words → b ≤ k → has_end_between words b k ≡ nat_lt b (slice_index starts k)
+  pub each : (k b : ℕ) → k < length words → b ≤ k
+      → has_end_between words b k ≡ nat_lt b (slice_index starts k)
 
 -- what a table that was read is like
 pub record IsUsable (shift : ℕ) (bloom buckets words starts : List ℕ) : Type 0 where

@@ -1,6 +1,7 @@
 //! The chains of the hash table, and how deep each symbol lies in its own.
 //!
-//! System V gABI, Hash Table; `specs/Depths.antt` says what is kept. Chains may share their ends: each symbol is met once.
+//! System V gABI, Hash Table; `specs/Depths.antt` says what is kept. Chains may share their ends:
+//! each symbol is met once.
 
 ghost use Rattle.std.specs.Prelude.{◌≡◌, ◌≢◌, ◌≤◌, ◌<◌, ◌+◌, ◌==◌, ℕ, Ok, true, false, IfOk, MatchOption, length, slice_index};
 ghost use Rattle.std.specs.List.{list_all};
@@ -9,8 +10,9 @@ ghost use Rattle.sym_tables.specs.Depths.{AreHeadsKnown, AreMeasured, HasNoted, 
 
 use std::alloc::{AllocError, Global};
 
-/// For each symbol the next of its chain; and of each that was met its depth, how many symbols its chain has from it on, and
-/// one farther on in the chain. 0 is no symbol, and the depth of one that was not met.
+/// For each symbol the next of its chain; and of each that was met its depth, how many symbols its
+/// chain has from it on, and one farther on in the chain. 0 is no symbol, and the depth of one that
+/// was not met.
 #[derive(Drop)]
 pub(crate) struct Chains {
     next: Vec<u32>,
@@ -71,13 +73,19 @@ impl Chains {
         at == 0 || depth_of(&self.depths, at as usize) != 0
     }
 
-    /// The way from a symbol to the first that is known, if there is one before as many symbols as there are.
+    /// The way from a symbol to the first that is known, if there is one before as many symbols as
+    /// there are.
     #[tactic(auto, using(crate::proofs::Depths::way_none, crate::proofs::Depths::way_endless))]
     fn way(&self, alloc: Global, first: u32) -> Result<Option<Way>, AllocError>
         requires depths { AreMeasured self.now }
-        requires links { list_all (λ w. is_link (length self.now.next.items) w) self.now.next.items ≡ true }
+        requires links { list_all (λ w. is_link (length self.now.next.items) w) self.now.next.items
+            ≡ true }
         requires first { is_link (length self.now.next.items) first ≡ true }
-        ensures { IfOk result (λ found. MatchOption found (ends_in (length self.now.next.items) self.now.next.items first ≡ false) (λ w. IsWay self.now.next.items first w.symbols.items w.end × Knows self.now w.end × (length w.symbols.items ≤ length self.now.next.items))) }
+        ensures { IfOk result
+            (λ found. MatchOption found
+            (ends_in (length self.now.next.items) self.now.next.items first ≡ false)
+            (λ w. IsWay self.now.next.items first w.symbols.items w.end × Knows self.now w.end
+            × (length w.symbols.items ≤ length self.now.next.items))) }
     {
         let mut symbols = Vec::new(alloc);
         let mut end = first;
@@ -91,8 +99,8 @@ impl Chains {
         Ok(Some(Way { symbols, end }))
     }
 
-    /// A symbol that the next one of a symbol reaches, to keep of it: so that a way of n symbols has steps in the order of
-    /// log n.
+    /// A symbol that the next one of a symbol reaches, to keep of it: so that a way of n symbols
+    /// has steps in the order of log n.
     #[tactic(auto, using(crate::proofs::Depths::jump_known, crate::proofs::Depths::jump_reached, crate::proofs::Depths::reach_here, crate::proofs::Depths::jump_twice, crate::proofs::Depths::jump_shallow))]
     fn jump_from(&self, next: u32) -> u32
         requires depths { AreMeasured self.now }
@@ -125,10 +133,12 @@ impl Chains {
         requires depths { AreMeasured self.old }
         requires way { (first : ℕ) × IsWay self.old.next.items first way.symbols.items way.end }
         requires known { Knows self.old way.end }
-        requires few { slice_index self.old.depths.items way.end + length way.symbols.items ≤ length self.old.next.items }
+        requires few { slice_index self.old.depths.items way.end + length way.symbols.items ≤ length
+            self.old.next.items }
         ensures depths { AreMeasured self.new }
         ensures words { self.new.next ≡ self.old.next }
-        ensures known { (first : ℕ) → IsWay self.old.next.items first way.symbols.items way.end → Knows self.new first }
+        ensures known { (first : ℕ) → IsWay self.old.next.items first way.symbols.items way.end →
+            Knows self.new first }
         ensures kept { KeepsKnown self.old self.new }
     {
         let mut symbols = way.symbols;
@@ -141,11 +151,13 @@ impl Chains {
     #[tactic(auto, using(crate::proofs::Depths::way_too_long, crate::proofs::Depths::way_fits))]
     fn measure(&mut self, alloc: Global, first: u32) -> Result<bool, AllocError>
         requires depths { AreMeasured self.old }
-        requires links { list_all (λ w. is_link (length self.old.next.items) w) self.old.next.items ≡ true }
+        requires links { list_all (λ w. is_link (length self.old.next.items) w) self.old.next.items
+            ≡ true }
         requires first { is_link (length self.old.next.items) first ≡ true }
         ensures depths { AreMeasured self.new }
         ensures words { self.new.next ≡ self.old.next }
-        ensures ends { IfOk result (λ ends. ends ≡ ends_in (length self.old.next.items) self.old.next.items first) }
+        ensures ends { IfOk result (λ ends. ends ≡ ends_in (length self.old.next.items)
+            self.old.next.items first) }
         ensures known { result ≡ Ok true → Knows self.new first }
         ensures kept { KeepsKnown self.old self.new }
     {
@@ -164,10 +176,12 @@ impl Chains {
     #[tactic(auto, using(crate::proofs::Depths::all_links_at))]
     pub(crate) fn measure_all(&mut self, alloc: Global, firsts: &[u32]) -> Result<bool, AllocError>
         requires depths { AreMeasured self.old }
-        requires links { list_all (λ w. is_link (length self.old.next.items) w) self.old.next.items ≡ true }
+        requires links { list_all (λ w. is_link (length self.old.next.items) w) self.old.next.items
+            ≡ true }
         requires firsts { list_all (λ w. is_link (length self.old.next.items) w) firsts.now ≡ true }
         ensures words { self.new.next ≡ self.old.next }
-        ensures ends { IfOk result (λ ends. ends ≡ list_all (λ at. ends_in (length self.old.next.items) self.old.next.items at) firsts.now) }
+        ensures ends { IfOk result (λ ends. ends ≡ list_all (λ at. ends_in (length
+            self.old.next.items) self.old.next.items at) firsts.now) }
         ensures known { result ≡ Ok true → AreHeadsKnown self.new firsts.now }
     {
         for first in firsts {
@@ -205,7 +219,8 @@ impl Chains {
         ensures known { Knows self.now result }
         ensures reached { Reaches self.now.next.items first result }
         ensures low { slice_index self.now.depths.items result ≤ depth }
-        ensures enough { depth ≤ slice_index self.now.depths.items first → depth ≤ slice_index self.now.depths.items result }
+        ensures enough { depth ≤ slice_index self.now.depths.items first → depth ≤ slice_index
+            self.now.depths.items result }
     {
         let mut at = first;
         'descend: while depth_of(&self.depths, at as usize) > depth {

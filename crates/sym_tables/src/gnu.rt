@@ -1,4 +1,5 @@
-//! The hash table of the GNU tools, read from a file in three stages: its front, its reach, and its chain words.
+//! The hash table of the GNU tools, read from a file in three stages: its front, its reach, and its
+//! chain words.
 
 ghost use Rattle.std.specs.Prelude.{[], ◌≡◌, Some, true, IfOk};
 ghost use Rattle.answers.specs.Answers.{TellsBy};
@@ -19,7 +20,8 @@ use byte_view::flaws::HASH_RANGE;
 use elf_headers::Elf;
 use std::alloc::{AllocError, Global};
 
-/// A table, its reach, and where it begins and ends in the file, the chain words below its reach included.
+/// A table, its reach, and where it begins and ends in the file, the chain words below its reach
+/// included.
 #[derive(Drop)]
 pub(crate) struct FoundGnu {
     pub(crate) table: GnuTable,

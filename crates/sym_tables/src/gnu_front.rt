@@ -12,7 +12,8 @@ use crate::words::{words, xwords};
 use elf_headers::{Elf, word};
 use std::alloc::{AllocError, Global};
 
-/// The first words of a table: how many buckets, the first listed symbol, how many Bloom words, and the shift.
+/// The first words of a table: how many buckets, the first listed symbol, how many Bloom words, and
+/// the shift.
 #[derive(Clone, Copy)]
 pub(crate) struct GnuHeader {
     buckets: u32,
@@ -25,7 +26,8 @@ pub(crate) struct GnuHeader {
 #[tactic(auto, using(crate::proofs::Placing::gnu_header))]
 fn header(elf: &Elf, bytes: &[u8], addr: u64) -> Option<GnuHeader>
     requires { IsReadFrom elf.now bytes.now }
-    ensures { MatchOption result (range_in elf.now addr 16 ≡ None) (λ h. IsGnuHeader h bytes.now elf.now addr) }
+    ensures { MatchOption result (range_in elf.now addr 16 ≡ None)
+        (λ h. IsGnuHeader h bytes.now elf.now addr) }
 {
     let (from, _) = elf.range(addr, 16)?;
     let at = from as u64;
@@ -49,8 +51,8 @@ fn are_beginnings(offset: u32, buckets: &[u32]) -> bool
     buckets.iter().all(|b| *b == 0 || offset <= *b)
 }
 
-/// A table up to its chain words: the first symbol that is listed, the shift and the words of the Bloom filter, the
-/// buckets, and how many bytes these take.
+/// A table up to its chain words: the first symbol that is listed, the shift and the words of the
+/// Bloom filter, the buckets, and how many bytes these take.
 #[derive(Drop)]
 pub(crate) struct Front {
     pub(crate) offset: u32,
@@ -93,7 +95,10 @@ impl Front {
         addr: u64,
     ) -> Result<Option<Front>, AllocError>
         requires { IsReadFrom elf.now bytes.now }
-        ensures { IfOk result (λ found. MatchOption found (range_in elf.now addr (chains_from bytes.now elf.now addr) ≡ None) (λ f. IsFrontOf f bytes.now elf.now addr)) }
+        ensures { IfOk result
+            (λ found. MatchOption found
+            (range_in elf.now addr (chains_from bytes.now elf.now addr) ≡ None)
+            (λ f. IsFrontOf f bytes.now elf.now addr)) }
     {
         let Some(header) = header(elf, bytes, addr) else {
             return Ok(None);
@@ -108,7 +113,8 @@ impl Front {
         }
     }
 
-    /// Does it have a bucket, as many Bloom words as a power of two, a shift within a hash, and buckets that begin chains?
+    /// Does it have a bucket, as many Bloom words as a power of two, a shift within a hash, and
+    /// buckets that begin chains?
     #[tactic(auto, unfolding(load_model::specs::GnuTable::is_gnu_sound))]
     pub(crate) fn is_sound(&self) -> bool
         ensures { result ≡ is_gnu_sound (front_table self.now []) }

@@ -1,4 +1,5 @@
-//! The reach of a table of the GNU tools: one more than the last symbol that it has a chain word for.
+//! The reach of a table of the GNU tools: one more than the last symbol that it has a chain word
+//! for.
 
 ghost use Rattle.std.specs.Prelude.{[], ◌≡◌, ◌≤◌, ◌<◌, ◌+◌, ◌-◌, ◌*◌, ◌^◌, true, false, IfSome, MatchOption, is_some, length};
 ghost use Rattle.std.specs.List.{find, range_with_len};
@@ -47,10 +48,12 @@ pub(crate) fn is_last(word: u32) -> bool
     word % 2 == 1
 }
 
-/// The first of the words `from` to `to` that ends a chain; they are counted from a place in the file.
+/// The first of the words `from` to `to` that ends a chain; they are counted from a place in the
+/// file.
 fn first_last(bytes: &[u8], at: u64, from: u64, to: u64) -> Option<u64>
     requires { at + 4 * to ≤ length bytes.now }
-    ensures found { result ≡ find (λ k. is_last (number_at 4 bytes.now (at + 4 * k))) (range_with_len from (to - from)) }
+    ensures found { result ≡ find (λ k. is_last (number_at 4 bytes.now (at + 4 * k)))
+        (range_with_len from (to - from)) }
     ensures bound { IfSome result (λ k. k < to) }
 {
     (from..to).find(|k| is_last(word(bytes, at + 4 * *k)))
@@ -64,13 +67,15 @@ pub(crate) struct Reach {
 }
 
 impl Reach {
-    /// The reach of the table, if the chain that begins at the greatest bucket ends where memory has it from the file.
+    /// The reach of the table, if the chain that begins at the greatest bucket ends where memory
+    /// has it from the file.
     #[tactic(auto, using(crate::proofs::Placing::front_fits, crate::proofs::Reach::reach_found, crate::proofs::Reach::reach_lost, crate::proofs::Reach::no_reach))]
     pub(crate) fn of(front: &Front, elf: &Elf, bytes: &[u8], addr: u64) -> Option<Reach>
         requires read { IsReadFrom elf.now bytes.now }
         requires front { IsFrontOf front.now bytes.now elf.now addr }
         requires sound { is_gnu_sound (front_table front.now []) ≡ true }
-        ensures { MatchOption result (HasNoReach bytes.now elf.now addr) (λ r. IsReachOf r bytes.now elf.now addr) }
+        ensures { MatchOption result (HasNoReach bytes.now elf.now addr)
+            (λ r. IsReachOf r bytes.now elf.now addr) }
     {
         let top = front.top();
         if top == 0 {

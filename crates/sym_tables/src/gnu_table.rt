@@ -10,7 +10,8 @@ use crate::gnu_reach::is_last;
 use std::alloc::{AllocError, Global};
 use std::marker::Model;
 
-/// Where the chain of the next word begins: behind a word that ends one, or where that of this word does.
+/// Where the chain of the next word begins: behind a word that ends one, or where that of this word
+/// does.
 fn next_start(start: usize, k: usize, word: u32) -> usize
     requires { k < 2 ^ 63 }
     ensures { result ≡ cond (is_last word) (k + 1) start }
@@ -41,7 +42,8 @@ fn has_bit(word: u64, bit: u32) -> bool
 
 /// Does the chain of the word at a place begin at another word or before it?
 fn begins_by(starts: &[usize], place: usize, first: usize) -> bool
-    ensures { result ≡ (nat_lt place (length starts.now) && nat_le (slice_index starts.now place) first) }
+    ensures { result
+        ≡ (nat_lt place (length starts.now) && nat_le (slice_index starts.now place) first) }
 {
     match starts.get(place) {
         Some(start) => *start <= first,
@@ -66,7 +68,13 @@ impl Model for GnuTable {
 
     ghost Value = { Table };
 
-    ghost view = { λ t. record { offset = t.offset; shift = t.shift; bloom = t.bloom.items; buckets = t.buckets.items; words = t.words.items } };
+    ghost view = { λ t. record {
+      offset = t.offset;
+      shift = t.shift;
+      bloom = t.bloom.items;
+      buckets = t.buckets.items;
+      words = t.words.items;
+    } };
 
     ghost invariant = { λ t. IsUsable t.shift t.bloom.items t.buckets.items t.words.items t.starts.items };
 }

@@ -31,8 +31,8 @@ pub fn reach_within_symbols()
         → reach ≤ symbol_count file }
 {}
 
-/// In a GNU hash table without a flaw the reach is one more than the least index, from the greatest bucket on, whose chain
-/// word is odd, and there is one; where all buckets are 0 there is no reach.
+/// In a GNU hash table without a flaw the reach is one more than the least index, from the greatest
+/// bucket on, whose chain word is odd, and there is one; where all buckets are 0 there is no reach.
 pub fn reach_is_least()
     ensures none { (file : List ℕ) (segments : List Segment) (addr : ℕ)
         → greatest (gnu_buckets file segments addr) ≡ 0
@@ -48,8 +48,8 @@ pub fn reach_is_least()
         ↔ IsLeastEnd file segments addr (greatest (gnu_buckets file segments addr)) last }
 {}
 
-/// In a file without these flaws each symbol that other objects may bind to is listed by each hash table that is there, in
-/// the chain of the bucket that the hash of its name leads to.
+/// In a file without these flaws each symbol that other objects may bind to is listed by each hash
+/// table that is there, in the chain of the bucket that the hash of its name leads to.
 pub fn each_table_lists()
     ensures sysv { (file : List ℕ) (i : ℕ) (s : RawSym) (t : SysvTable) → symbol_flaw file ≡ None
         → slice_get (symbols_of file) i ≡ Some s → is_offerable i s ≡ true
@@ -61,8 +61,8 @@ pub fn each_table_lists()
         → gnu_lists t (gnu_hash (name_in (file_strings file) s)) i ≡ true }
 {}
 
-/// In a table whose chains end, a symbol is in the chain from another on exactly where it stands in the list that is that
-/// chain.
+/// In a table whose chains end, a symbol is in the chain from another on exactly where it stands in
+/// the list that is that chain.
 pub fn chain_is_list()
     ensures { (chains list : List ℕ) (at i : ℕ)
         → ends_in (length chains) chains at ≡ true

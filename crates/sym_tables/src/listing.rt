@@ -61,7 +61,9 @@ fn is_listed(tables: &Tables, name: &[u8], i: usize) -> bool
 fn is_lost(tables: &Tables, dynamic: &Dyn, bytes: &[u8], symbols: &[RawSym], i: usize) -> bool
     requires table { IsTableOf dynamic.now bytes.now }
     requires sound { HasBucket tables.now.sysv }
-    ensures { result ≡ is_lost (sysv_of tables.now.sysv) (gnu_of tables.now.gnu) (file_strings bytes.now) i (slice_get symbols.now i) }
+    ensures { result
+        ≡ is_lost (sysv_of tables.now.sysv) (gnu_of tables.now.gnu) (file_strings bytes.now) i
+        (slice_get symbols.now i) }
 {
     match symbols.get(i) {
         Some(s) => is_offerable(i, s) && !is_listed(tables, name_of(dynamic, bytes, s), i),
@@ -74,7 +76,9 @@ fn is_lost(tables: &Tables, dynamic: &Dyn, bytes: &[u8], symbols: &[RawSym], i: 
 fn first_lost(tables: &Tables, dynamic: &Dyn, bytes: &[u8], symbols: &[RawSym]) -> Option<usize>
     requires table { IsTableOf dynamic.now bytes.now }
     requires sound { HasBucket tables.now.sysv }
-    ensures { result ≡ first_lost (sysv_of tables.now.sysv) (gnu_of tables.now.gnu) (file_strings bytes.now) symbols.now }
+    ensures { result
+        ≡ first_lost (sysv_of tables.now.sysv) (gnu_of tables.now.gnu) (file_strings bytes.now)
+        symbols.now }
 {
     (0..symbols.len()).find(|i| is_lost(tables, dynamic, bytes, symbols, *i))
 }
@@ -88,7 +92,9 @@ pub(crate) fn check_listed(
 ) -> Result<(), SymFault>
     requires table { IsTableOf dynamic.now bytes.now }
     requires sound { HasBucket tables.now.sysv }
-    ensures { TellsBy symbol_fault_flaw result (broken_hash (sysv_of tables.now.sysv) (gnu_of tables.now.gnu) (file_strings bytes.now) symbols.now) }
+    ensures { TellsBy symbol_fault_flaw result
+        (broken_hash (sysv_of tables.now.sysv) (gnu_of tables.now.gnu) (file_strings bytes.now)
+        symbols.now) }
 {
     match first_lost(tables, dynamic, bytes, symbols) {
         Some(i) => Err(flawed(HASH_BROKEN, i as u64)),

@@ -38,7 +38,9 @@ fn symbols_from(
     count: u64,
 ) -> Result<Vec<RawSym>, AllocError>
     requires { from + 24 * count ≤ length bytes.now }
-    ensures { IfOk result (λ symbols. symbols.items ≡ map (λ i. symbol_of bytes.now (from + 24 * i)) (range_with_len 0 count)) }
+    ensures { IfOk result
+        (λ symbols. symbols.items
+        ≡ map (λ i. symbol_of bytes.now (from + 24 * i)) (range_with_len 0 count)) }
 {
     (0..count)
         .map(|i| symbol_at(bytes, from + 24 * i))

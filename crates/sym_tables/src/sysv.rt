@@ -34,7 +34,8 @@ pub(crate) struct SysvPlace {
 #[tactic(auto, unfolding(load_model::specs::SysvTable::sysv_place), using(crate::proofs::Placing::sysv_header, crate::proofs::Placing::sysv_cut))]
 fn place(elf: &Elf, bytes: &[u8], addr: u64) -> Option<SysvPlace>
     requires { IsReadFrom elf.now bytes.now }
-    ensures { MatchOption result (sysv_place bytes.now elf.now addr ≡ None) (λ p. IsSysvPlace p bytes.now elf.now addr) }
+    ensures { MatchOption result (sysv_place bytes.now elf.now addr ≡ None)
+        (λ p. IsSysvPlace p bytes.now elf.now addr) }
 {
     let (header, _) = elf.range(addr, 8)?;
     let buckets = word(bytes, header as u64);
@@ -60,7 +61,8 @@ fn all_links(n: usize, words: &[u32]) -> bool
     words.iter().all(|w| is_link(n, *w))
 }
 
-/// The words of a table: the first symbol of each bucket, and for each symbol the next of its chain; 0 is no symbol.
+/// The words of a table: the first symbol of each bucket, and for each symbol the next of its
+/// chain; 0 is no symbol.
 #[derive(Drop)]
 struct SysvWords {
     buckets: Vec<u32>,
@@ -93,7 +95,9 @@ impl SysvWords {
     /// The table of these words, if it is sound: its chains end.
     #[tactic(auto, using(crate::proofs::Linked::unlinked, crate::proofs::Linked::endless, crate::proofs::Linked::sound, crate::proofs::Linked::chains_linked, crate::proofs::Linked::buckets_linked))]
     fn finish(self, alloc: Global) -> Result<Option<SysvTable>, AllocError>
-        ensures { IfOk result (λ found. MatchOption found (is_sysv_sound (words_table self) ≡ false) (λ t. (t ≡ words_table self) × (is_sysv_sound (words_table self) ≡ true))) }
+        ensures { IfOk result
+            (λ found. MatchOption found (is_sysv_sound (words_table self) ≡ false)
+            (λ t. (t ≡ words_table self) × (is_sysv_sound (words_table self) ≡ true))) }
     {
         if !self.are_linked() {
             return Ok(None);

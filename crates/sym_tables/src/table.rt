@@ -24,7 +24,8 @@ use load_model::RawSym;
 use std::alloc::Global;
 use std::marker::Model;
 
-/// The symbols of a file in which they and the hash tables have no flaw. The file's bytes are not kept.
+/// The symbols of a file in which they and the hash tables have no flaw. The file's bytes are not
+/// kept.
 #[derive(Drop)]
 pub struct Syms {
     symbols: Vec<RawSym>,
@@ -40,7 +41,13 @@ impl Model for Syms {
 
     ghost Value = { Symbols };
 
-    ghost view = { λ s. record { count = length s.symbols.items; raw = s.symbols.items; hash_range = s.hash; gnu_range = s.gnu } };
+    ghost view = { λ s. record {
+      count = length s.symbols.items;
+      raw = s.symbols.items;
+      hash_range =
+          s.hash;
+      gnu_range = s.gnu;
+    } };
 
     ghost invariant = { λ s. length s.symbols.items < 2 ^ 32 };
 }
@@ -81,8 +88,8 @@ impl Syms {
         self.hash
     }
 
-    /// Where the GNU hash table begins and ends in the file, if there is one. It ends behind the chain words below its
-    /// reach.
+    /// Where the GNU hash table begins and ends in the file, if there is one. It ends behind the
+    /// chain words below its reach.
     pub fn gnu_range(&self) -> Option<(usize, usize)>
         ensures { result ≡ self.now.gnu_range }
     {
@@ -94,7 +101,8 @@ impl Syms {
     fn read_by(alloc: Global, elf: &Elf, table: &Dyn, bytes: &[u8]) -> Result<Syms, SymFault>
         requires elf { IsReadFrom elf.now bytes.now }
         requires table { IsTableOf table.now bytes.now }
-        ensures flaw { TellsBy symbol_fault_flaw result (symbol_flaw_by bytes.now elf.now table.now.entries) }
+        ensures flaw { TellsBy symbol_fault_flaw result (symbol_flaw_by bytes.now elf.now
+            table.now.entries) }
         ensures table { IfOk result (λ s. AreSymsBy s bytes.now elf.now table.now.entries) }
     {
         let entries = table.entries();
@@ -123,7 +131,8 @@ fn count_of(elf: &Elf, bytes: &[u8], entries: &[Entry], tables: &Tables) -> Resu
     check_count(section, tables.hash_count(), tables.reach())
 }
 
-/// Are the names of the symbols in the string table, and do the hash tables list those that other objects may bind to?
+/// Are the names of the symbols in the string table, and do the hash tables list those that other
+/// objects may bind to?
 #[tactic(auto, unfolding(crate::specs::Listing::lists_flaw))]
 fn check_list(
     table: &Dyn,
@@ -133,7 +142,9 @@ fn check_list(
 ) -> Result<(), SymFault>
     requires table { IsTableOf table.now bytes.now }
     requires sound { HasBucket tables.now.sysv }
-    ensures { TellsBy symbol_fault_flaw result (lists_flaw (strings_size table.now.entries) (sysv_of tables.now.sysv) (gnu_of tables.now.gnu) (file_strings bytes.now) symbols.now) }
+    ensures { TellsBy symbol_fault_flaw result
+        (lists_flaw (strings_size table.now.entries) (sysv_of tables.now.sysv)
+        (gnu_of tables.now.gnu) (file_strings bytes.now) symbols.now) }
 {
     let size = strings_size(table.entries());
     check_names(size, symbols)?;

@@ -23,7 +23,8 @@ const FUNCTION_VALUE: usize = 216;
 const BUCKET: usize = 240;
 
 const CHAIN_WORD: usize = 248;
-/// `symoffset` and `bloom_size` of its GNU hash table, the Bloom word, the bucket and the chain word.
+/// `symoffset` and `bloom_size` of its GNU hash table, the Bloom word, the bucket and the chain
+/// word.
 const FIRST_LISTED: usize = 260;
 
 const FILTER_COUNT: usize = 264;
@@ -40,8 +41,9 @@ const SECTION_SIZE: usize = 512;
 /// `DT_DEBUG`, which is not looked at.
 const OTHER_TAG: u8 = 21;
 
-/// A library with the exported function `f`: the strings at 176, two symbols at 184, a hash table of one bucket at 232, a
-/// GNU hash table of one bucket at 256, the dynamic table at 288, the null section and that of the symbols at 416.
+/// A library with the exported function `f`: the strings at 176, two symbols at 184, a hash table
+/// of one bucket at 232, a GNU hash table of one bucket at 256, the dynamic table at 288, the null
+/// section and that of the symbols at 416.
 #[rattlefmt::skip]
 fn library() -> [u8; 544] {
     [
@@ -89,7 +91,8 @@ fn put(bytes: &mut [u8], place: usize, change: &[u8]) {
     }
 }
 
-/// The library with a hash table that is not looked at, an empty GNU hash table, and a function without a value.
+/// The library with a hash table that is not looked at, an empty GNU hash table, and a function
+/// without a value.
 fn bare_library() -> [u8; 544] {
     let mut bytes = library();
     bytes[LIBRARY_HASH_TAG] = OTHER_TAG;

@@ -10,7 +10,8 @@ use Rattle.load_model.specs.declared.symbols.Ver.{Ver}
 use Rattle.version_tables.specs.declared.asked.Asked.{Asked}
 use Rattle.version_tables.specs.declared.definitions.Definition.{Definition}
 
--- how many version indexes the symbols may have, by where their table is; without it none is looked up
+-- how many version indexes the symbols may have, by where their table is; without it none is looked
+-- up
 abbrev pub index_count_by : Option ℕ → ℕ
 index_count_by versym = cond (is_some versym) (VERSYM_VERSION + 1) 0
 
@@ -19,7 +20,9 @@ index_count file = index_count_by (dynamic_value file DT_VERSYM)
 
 -- a name is noted for an index that has none
 unfoldable pub noted : List (Option ℕ) → ℕ × ℕ → List (Option ℕ)
-noted places name = cond (is_some (slice_index_or places name.0 (Some 0))) places (slice_set places name.0 (Some name.1))
+noted places name =
+    cond (is_some (slice_index_or places name.0 (Some 0))) places
+    (slice_set places name.0 (Some name.1))
 
 -- all names, one after another
 abbrev pub all_noted : List (Option ℕ) → List (ℕ × ℕ) → List (Option ℕ)
@@ -45,7 +48,9 @@ symbol_word file symbol = cond (is_versioned file) (versym_word file symbol) VER
 
 -- 32, by the word of a symbol
 abbrev pub unknown_word : List (Option ℕ) → ℕ → ℕ → Option Flaw
-unknown_word places symbol word = some_where (nat_lt VER_NDX_GLOBAL (index_in word) && not (is_some (place_in places (index_in word)))) (flaw UNKNOWN_INDEX symbol (index_in word))
+unknown_word places symbol word =
+    some_where (nat_lt VER_NDX_GLOBAL (index_in word) && not (is_some (place_in places (index_in
+    word)))) (flaw UNKNOWN_INDEX symbol (index_in word))
 
 unfoldable pub unknown_at : List (Option ℕ) → List ℕ → ℕ → Option Flaw
 unknown_at places words symbol = unknown_word places symbol (slice_index words symbol)

@@ -12,7 +12,8 @@ use Rattle.version_tables.specs.Walks.{asked_of_need, definition_of, file_word_o
 use Rattle.version_tables.specs.declared.asked.Asked.{Asked}
 use Rattle.version_tables.specs.declared.definitions.Definition.{Definition}
 
--- the version of each symbol and whether it is hidden, definitions, asks, and their places in the file
+-- the version of each symbol and whether it is hidden, definitions, asks, and their places in the
+-- file
 pub record VersionLists : Type 0 where
   pub versions : List Ver
   pub hidden : List Bool
@@ -44,7 +45,8 @@ abbrev pub places_in : Definition → ℕ × ℕ
 places_in d = (d.place, d.aux_place)
 
 -- all lists by what was kept
-unfoldable pub lists_in : List ℕ → List ℕ → List (Option ℕ) → List Definition → List ℕ → List Asked → VersionLists
+unfoldable pub lists_in : List ℕ → List ℕ → List (Option ℕ) → List Definition → List ℕ → List Asked
+    → VersionLists
 lists_in file words places definitions file_words asks = record {
   versions = map (version_in file places) words;
   hidden = map (λ word. has_bit VERSYM_HIDDEN word) words;
@@ -57,7 +59,8 @@ lists_in file words places definitions file_words asks = record {
 }
 
 -- what is kept of all tables
-pub record AreVersionTablesOf (words : List ℕ) (definitions : List Definition) (file_words : List ℕ) (asks : List Asked) (count : ℕ) (file : List ℕ) : Type 0 where
+pub record AreVersionTablesOf (words : List ℕ) (definitions : List Definition) (file_words : List ℕ)
+    (asks : List Asked) (count : ℕ) (file : List ℕ) : Type 0 where
   pub symbol_words : words ≡ map (symbol_word file) (range_with_len 0 count)
   pub kept_definitions : definitions ≡ from_on (definition_of file) 0 (verdef_count file)
   pub kept_words : file_words ≡ from_on (file_word_of file) 0 (verneed_count file)

@@ -50,7 +50,9 @@ fn good_vernaux(
     requires headers { IsReadFrom elf.now bytes.now }
     requires strings { size ≡ strings_size (dynamic_entries bytes.now) }
     requires turn { j < HIGHEST_END }
-    ensures flaw { TellsBy version_fault_flaw result (first_some (bad_vernaux bytes.now at ∷ bad_text bytes.now (vna_name bytes.now at) ∷ bad_next said j (vna_next bytes.now at) ∷ [])) }
+    ensures flaw { TellsBy version_fault_flaw result (first_some (bad_vernaux bytes.now at ∷
+        bad_text bytes.now (vna_name bytes.now at) ∷ bad_next said j (vna_next bytes.now at)
+        ∷ [])) }
     ensures words { IfOk result (λ v. v ≡ vernaux_words bytes.now at) }
     ensures limit { IfOk result (λ _. at + 16 ≤ HIGHEST_END) }
 {
@@ -93,7 +95,8 @@ pub(crate) fn read_asked(
     requires words { verneed.now ≡ verneed_words bytes.now at }
     requires limit { at + 16 ≤ HIGHEST_END }
     ensures flaw { TellsBy version_fault_flaw result (vernauxs_flaw bytes.now at) }
-    ensures kept { OnOk result (asks.new.items ≡ asks.old.items ++ asked_of_record bytes.now number at) }
+    ensures kept { OnOk result (asks.new.items ≡ asks.old.items ++ asked_of_record bytes.now number
+        at) }
 {
     let said = u64::from(verneed.cnt);
     let mut aux_at = at + u64::from(verneed.aux);

@@ -68,8 +68,8 @@ fn good_verdaux(elf: &Elf, bytes: &[u8], at: u64) -> Result<Verdaux, VersionFaul
     }
 }
 
-/// The definition at an address, number `k` of the `said` ones, counted from 0. The string table has
-/// so much size.
+/// The definition at an address, number `k` of the `said` ones, counted from 0. The string table
+/// has so much size.
 #[tactic(auto, unfolding(crate::specs::Records::verdef_words, crate::specs::Records::verdaux_words, crate::specs::Records::definition_at))]
 fn definition_at(
     elf: &Elf,
@@ -103,7 +103,8 @@ fn definition_at(
 
 /// How many definitions there are, by the dynamic table.
 fn definition_count(entries: &[Entry]) -> u64
-    ensures { result ≡ record_count (value_of DT_VERDEF entries.now) (value_of DT_VERDEFNUM entries.now) }
+    ensures { result
+        ≡ record_count (value_of DT_VERDEF entries.now) (value_of DT_VERDEFNUM entries.now) }
 {
     record_count(
         value_of(DT_VERDEF, entries),
@@ -120,8 +121,8 @@ fn first_definition(entries: &[Entry]) -> u64
 
 /// The definitions in order, as many as the dynamic table says.
 ///
-/// The addresses go up, since only the last record may have a `next` of 0, and each record stands in
-/// the file: so the walk ends by the file, whatever the said number is.
+/// The addresses go up, since only the last record may have a `next` of 0, and each record stands
+/// in the file: so the walk ends by the file, whatever the said number is.
 pub(crate) fn read_definitions(
     alloc: Global,
     elf: &Elf,
@@ -131,7 +132,8 @@ pub(crate) fn read_definitions(
     requires headers { IsReadFrom elf.now bytes.now }
     requires table { IsTableOf table.now bytes.now }
     ensures flaw { TellsBy version_fault_flaw result (verdefs_flaw bytes.now) }
-    ensures kept { IfOk result (λ definitions. definitions.items ≡ from_on (definition_of bytes.now) 0 (verdef_count bytes.now)) }
+    ensures kept { IfOk result (λ definitions. definitions.items ≡ from_on (definition_of bytes.now)
+        0 (verdef_count bytes.now)) }
 {
     let entries = table.entries();
     let size = strings_size(entries);

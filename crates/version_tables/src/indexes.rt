@@ -34,7 +34,8 @@ fn note(places: &mut Vec<Option<u32>>, index: u16, name: u32)
 }
 
 fn note_definitions(places: &mut Vec<Option<u32>>, definitions: &[Definition])
-    ensures { places.new.items ≡ all_noted places.old.items (map name_in_definition definitions.now) }
+    ensures { places.new.items
+        ≡ all_noted places.old.items (map name_in_definition definitions.now) }
 {
     for definition in definitions {
         note(places, definition.index, definition.name);
@@ -63,7 +64,9 @@ pub(crate) fn first_names(
     definitions: &[Definition],
     asks: &[Asked],
 ) -> Result<Vec<Option<u32>>, AllocError>
-    ensures { IfOk result (λ places. AreFirst size places.items (map name_in_definition definitions.now ++ map name_in_asked asks.now)) }
+    ensures { IfOk result
+        (λ places. AreFirst size places.items
+        (map name_in_definition definitions.now ++ map name_in_asked asks.now)) }
 {
     let mut places = no_names(alloc, size)?;
     note_definitions(&mut places, definitions);

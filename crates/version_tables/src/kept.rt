@@ -44,8 +44,10 @@ pub(crate) fn read_kept(
     requires headers { IsReadFrom elf.now bytes.now }
     requires table { IsTableOf table.now bytes.now }
     ensures flaw { TellsBy version_fault_flaw result (version_flaw count bytes.now) }
-    ensures kept { IfOk result (λ k. AreVersionTablesOf k.words.items k.definitions.items k.needs.file_words.items k.needs.asks.items count bytes.now) }
-    ensures names { IfOk result (λ k. AreFirst (index_count bytes.now) k.places.items (indexed_names bytes.now)) }
+    ensures kept { IfOk result (λ k. AreVersionTablesOf k.words.items k.definitions.items
+        k.needs.file_words.items k.needs.asks.items count bytes.now) }
+    ensures names { IfOk result (λ k. AreFirst (index_count bytes.now) k.places.items (indexed_names
+        bytes.now)) }
     ensures few { IfOk result (λ k. length k.needs.asks.items < 2 ^ 32) }
 {
     let words = read_words(alloc, elf, table, bytes, count)?;

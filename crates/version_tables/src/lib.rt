@@ -1,5 +1,5 @@
-//! The symbol versions of an ELF file: which version each symbol has, what the file defines, and what
-//! it asks of other files.
+//! The symbol versions of an ELF file: which version each symbol has, what the file defines, and
+//! what it asks of other files.
 //!
 //! Linux Standard Base, Symbol Versioning.
 #![tactic(auto)]

@@ -12,7 +12,8 @@ use elf_headers::Elf;
 #[tactic(auto, using(crate::proofs::Backed::unbacked_there))]
 pub(crate) fn backed(elf: &Elf, bytes: &[u8], at: u64, size: u64) -> Option<u64>
     requires { IsReadFrom elf.now bytes.now }
-    ensures { MatchOption result (is_some (range_in (headers bytes.now) at size) ≡ false) (λ place. IsBacked bytes.now at size place) }
+    ensures { MatchOption result (is_some (range_in (headers bytes.now) at size) ≡ false)
+        (λ place. IsBacked bytes.now at size place) }
 {
     match elf.range(at, size) {
         Some((from, _)) => Some(from as u64),

@@ -80,7 +80,8 @@ pub(crate) fn symbol_versions(
     words: &[u16],
 ) -> Result<Vec<Ver>, NoMemory>
     requires { IsTableOf table.now bytes.now }
-    ensures { IfOk result (λ versions. versions.items ≡ map (version_in bytes.now places.now) words.now) }
+    ensures { IfOk result
+        (λ versions. versions.items ≡ map (version_in bytes.now places.now) words.now) }
 {
     let mut versions = Vec::new(alloc);
     for word in words {

@@ -40,7 +40,8 @@ pub(crate) struct Needs {
 fn good_verneed(elf: &Elf, bytes: &[u8], size: u64, at: u64) -> Result<Verneed, VersionFault>
     requires headers { IsReadFrom elf.now bytes.now }
     requires strings { size ≡ strings_size (dynamic_entries bytes.now) }
-    ensures flaw { TellsBy version_fault_flaw result (first_some (bad_verneed bytes.now at ∷ bad_text bytes.now (vn_file bytes.now at) ∷ [])) }
+    ensures flaw { TellsBy version_fault_flaw result (first_some (bad_verneed bytes.now at ∷
+        bad_text bytes.now (vn_file bytes.now at) ∷ [])) }
     ensures words { IfOk result (λ v. v ≡ verneed_words bytes.now at) }
     ensures limit { IfOk result (λ _. at + 16 ≤ HIGHEST_END) }
     ensures within { IfOk result (λ v. v.place + 16 ≤ length bytes.now) }
@@ -71,7 +72,8 @@ fn read_need(
     requires count { said ≡ verneed_count bytes.now }
     requires turn { k ≤ at }
     ensures flaw { TellsBy version_fault_flaw result (verneed_flaw_at bytes.now k at) }
-    ensures kept { IfOk result (λ _. asks.new.items ≡ asks.old.items ++ asked_of_record bytes.now k at) }
+    ensures kept { IfOk result (λ _. asks.new.items ≡ asks.old.items ++ asked_of_record bytes.now k
+        at) }
     ensures words { IfOk result (λ v. v ≡ verneed_words bytes.now at) }
     ensures limit { IfOk result (λ _. at + 16 ≤ HIGHEST_END) }
     ensures within { IfOk result (λ v. v.place + 16 ≤ length bytes.now) }
@@ -88,7 +90,8 @@ fn read_need(
 
 /// How many needs there are, by the dynamic table.
 fn need_count(entries: &[Entry]) -> u64
-    ensures { result ≡ record_count (value_of DT_VERNEED entries.now) (value_of DT_VERNEEDNUM entries.now) }
+    ensures { result
+        ≡ record_count (value_of DT_VERNEED entries.now) (value_of DT_VERNEEDNUM entries.now) }
 {
     record_count(
         value_of(DT_VERNEED, entries),
@@ -105,8 +108,8 @@ fn first_need(entries: &[Entry]) -> u64
 
 /// The needs in order, as many as the dynamic table says.
 ///
-/// The addresses go up, since only the last record may have a `next` of 0, and each record stands in
-/// the file: so the walk ends by the file, whatever the said number is.
+/// The addresses go up, since only the last record may have a `next` of 0, and each record stands
+/// in the file: so the walk ends by the file, whatever the said number is.
 pub(crate) fn read_needs(
     alloc: Global,
     elf: &Elf,
@@ -116,8 +119,10 @@ pub(crate) fn read_needs(
     requires headers { IsReadFrom elf.now bytes.now }
     requires table { IsTableOf table.now bytes.now }
     ensures flaw { TellsBy version_fault_flaw result (verneeds_flaw bytes.now) }
-    ensures file_words { IfOk result (λ needs. needs.file_words.items ≡ from_on (file_word_of bytes.now) 0 (verneed_count bytes.now)) }
-    ensures asks { IfOk result (λ needs. needs.asks.items ≡ lists_from (asked_of_need bytes.now) 0 (verneed_count bytes.now)) }
+    ensures file_words { IfOk result (λ needs. needs.file_words.items ≡ from_on (file_word_of
+        bytes.now) 0 (verneed_count bytes.now)) }
+    ensures asks { IfOk result (λ needs. needs.asks.items ≡ lists_from (asked_of_need bytes.now) 0
+        (verneed_count bytes.now)) }
 {
     let entries = table.entries();
     let size = strings_size(entries);

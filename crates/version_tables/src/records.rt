@@ -54,7 +54,8 @@ pub(crate) struct Vernaux {
 #[tactic(auto, using(crate::proofs::Words::verdef_made, crate::proofs::Words::unbacked_words))]
 pub(crate) fn verdef_at(elf: &Elf, bytes: &[u8], at: u64) -> Option<Verdef>
     requires { IsReadFrom elf.now bytes.now }
-    ensures words { result ≡ cond (is_unbacked bytes.now at 20) None (Some (verdef_words bytes.now at)) }
+    ensures words { result ≡ cond (is_unbacked bytes.now at 20) None (Some (verdef_words bytes.now
+        at)) }
     ensures limit { IfSome result (λ _. at + 20 ≤ HIGHEST_END) }
 {
     let place = backed(elf, bytes, at, 20)?;
@@ -85,7 +86,8 @@ pub(crate) fn verdaux_at(elf: &Elf, bytes: &[u8], at: u64) -> Option<Verdaux>
 #[tactic(auto, using(crate::proofs::Words::verneed_made, crate::proofs::Words::unbacked_words))]
 pub(crate) fn verneed_at(elf: &Elf, bytes: &[u8], at: u64) -> Option<Verneed>
     requires { IsReadFrom elf.now bytes.now }
-    ensures words { result ≡ cond (is_unbacked bytes.now at 16) None (Some (verneed_words bytes.now at)) }
+    ensures words { result ≡ cond (is_unbacked bytes.now at 16) None (Some (verneed_words bytes.now
+        at)) }
     ensures limit { IfSome result (λ _. at + 16 ≤ HIGHEST_END) }
     ensures within { IfSome result (λ v. v.place + 16 ≤ length bytes.now) }
 {
@@ -104,7 +106,8 @@ pub(crate) fn verneed_at(elf: &Elf, bytes: &[u8], at: u64) -> Option<Verneed>
 #[tactic(auto, using(crate::proofs::Words::vernaux_made, crate::proofs::Words::unbacked_words))]
 pub(crate) fn vernaux_at(elf: &Elf, bytes: &[u8], at: u64) -> Option<Vernaux>
     requires { IsReadFrom elf.now bytes.now }
-    ensures words { result ≡ cond (is_unbacked bytes.now at 16) None (Some (vernaux_words bytes.now at)) }
+    ensures words { result ≡ cond (is_unbacked bytes.now at 16) None (Some (vernaux_words bytes.now
+        at)) }
     ensures limit { IfSome result (λ _. at + 16 ≤ HIGHEST_END) }
 {
     let place = backed(elf, bytes, at, 16)?;

@@ -28,7 +28,9 @@ use std::alloc::{AllocError, Global};
 /// The words of a table in the file.
 fn words_at(alloc: Global, bytes: &[u8], place: u64, count: u32) -> Result<Vec<u16>, AllocError>
     requires { place + 2 * count ≤ length bytes.now }
-    ensures { IfOk result (λ words. words.items ≡ map (λ i. number_at 2 bytes.now (place + 2 * i)) (range_with_len 0 count)) }
+    ensures { IfOk result
+        (λ words. words.items
+        ≡ map (λ i. number_at 2 bytes.now (place + 2 * i)) (range_with_len 0 count)) }
 {
     (0..u64::from(count))
         .map(|i| half(bytes, place + 2 * i))
@@ -44,8 +46,10 @@ fn versym_words(
     count: u32,
 ) -> Result<Vec<u16>, VersionFault>
     requires { IsReadFrom elf.now bytes.now }
-    ensures flaw { TellsBy version_fault_flaw result (some_where (is_unbacked bytes.now at (2 * count)) (flaw VERSION_RANGE at 0)) }
-    ensures words { IfOk result (λ words. words.items ≡ map (λ i. memory_number 2 bytes.now (at + 2 * i)) (range_with_len 0 count)) }
+    ensures flaw { TellsBy version_fault_flaw result (some_where (is_unbacked bytes.now at (2 *
+        count)) (flaw VERSION_RANGE at 0)) }
+    ensures words { IfOk result (λ words. words.items ≡ map (λ i. memory_number 2 bytes.now (at +
+        2 * i)) (range_with_len 0 count)) }
 {
     let Some(place) = backed(elf, bytes, at, 2 * u64::from(count)) else {
         return Err(flawed(VERSION_RANGE, at, 0));
@@ -59,7 +63,8 @@ fn versym_words(
 /// The words of symbols that have no versions.
 fn plain_words(alloc: Global, count: u32) -> Result<Vec<u16>, VersionFault>
     ensures flaw { TellsBy version_fault_flaw result None }
-    ensures words { IfOk result (λ words. words.items ≡ map (λ _. VER_NDX_GLOBAL) (range_with_len 0 count)) }
+    ensures words { IfOk result (λ words. words.items ≡ map (λ _. VER_NDX_GLOBAL) (range_with_len 0
+        count)) }
 {
     match (0..u64::from(count)).map(|_| VER_NDX_GLOBAL).collect(alloc) {
         Ok(words) => Ok(words),
@@ -79,7 +84,8 @@ pub(crate) fn read_words(
     requires headers { IsReadFrom elf.now bytes.now }
     requires table { IsTableOf table.now bytes.now }
     ensures flaw { TellsBy version_fault_flaw result (bad_versym count bytes.now) }
-    ensures words { IfOk result (λ words. words.items ≡ map (symbol_word bytes.now) (range_with_len 0 count)) }
+    ensures words { IfOk result (λ words. words.items ≡ map (symbol_word bytes.now) (range_with_len
+        0 count)) }
 {
     match value_of(DT_VERSYM, table.entries()) {
         Some(at) => versym_words(alloc, elf, bytes, at, count),
@@ -100,7 +106,8 @@ fn check_index(places: &[Option<u32>], symbol: u64, word: u16) -> Result<(), Ver
 
 /// Does the version index of each symbol have a name, if it needs one?
 pub(crate) fn check_indexes(words: &[u16], places: &[Option<u32>]) -> Result<(), VersionFault>
-    ensures { TellsBy version_fault_flaw result (first_some (from_on (unknown_at places.now words.now) 0 (length words.now))) }
+    ensures { TellsBy version_fault_flaw result
+        (first_some (from_on (unknown_at places.now words.now) 0 (length words.now))) }
 {
     for (symbol, word) in words.iter().enumerate() {
         match check_index(places, symbol as u64, *word) {
@@ -113,7 +120,8 @@ pub(crate) fn check_indexes(words: &[u16], places: &[Option<u32>]) -> Result<(),
 
 /// Is the definition not the default of its name, of each symbol?
 pub(crate) fn hidden_marks(alloc: Global, words: &[u16]) -> Result<Vec<bool>, AllocError>
-    ensures { IfOk result (λ marks. marks.items ≡ map (λ word. has_bit VERSYM_HIDDEN word) words.now) }
+    ensures { IfOk result
+        (λ marks. marks.items ≡ map (λ word. has_bit VERSYM_HIDDEN word) words.now) }
 {
     words
         .iter()

@@ -27,7 +27,8 @@ pub(crate) fn record_count(table: Option<u64>, said: Option<u64>) -> u64
 
 /// Does a place lie in a string table of this size?
 pub(crate) fn check_text(size: u64, place: u32) -> Result<(), VersionFault>
-    ensures { TellsBy version_fault_flaw result (some_where (nat_le size place) (flaw STRING_PLACE place 0)) }
+    ensures { TellsBy version_fault_flaw result
+        (some_where (nat_le size place) (flaw STRING_PLACE place 0)) }
 {
     let place = u64::from(place);
     if size <= place {

@@ -38,8 +38,9 @@ const VERSYM_ADDRESS: usize = 432;
 /// How many definitions there are.
 const DEFINITIONS_COUNT: usize = 464;
 
-/// A library with one symbol that asks libc.so.6 for GLIBC_9: the strings at 176, the symbol at 208, its
-/// word of versym at 248, its Verneed at 256 and the Vernaux at 272, the dynamic table at 288.
+/// A library with one symbol that asks libc.so.6 for GLIBC_9: the strings at 176, the symbol at
+/// 208, its word of versym at 248, its Verneed at 256 and the Vernaux at 272, the dynamic table at
+/// 288.
 #[rattlefmt::skip]
 fn asking() -> [u8; 464] {
     [

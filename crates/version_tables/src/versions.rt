@@ -52,7 +52,18 @@ impl Model for Versions {
 
     ghost Value = { VersionLists };
 
-    ghost view = { λ v. record { versions = v.versions.items; hidden = v.hidden.items; defs = v.defs; asks = v.asks; file_words = v.file_words.items; ask_needs = v.ask_needs.items; aux_places = v.aux_places.items; def_places = v.def_places.items } };
+    ghost view = { λ v. record {
+      versions = v.versions.items;
+      hidden = v.hidden.items;
+      defs =
+          v.defs;
+      asks = v.asks;
+      file_words = v.file_words.items;
+      ask_needs =
+          v.ask_needs.items;
+      aux_places = v.aux_places.items;
+      def_places = v.def_places.items;
+    } };
 }
 
 impl Versions {
@@ -155,7 +166,10 @@ impl Versions {
     #[tactic(auto, unfolding(crate::specs::VersionLists::lists_in))]
     fn of_kept(alloc: Global, table: &Dyn, bytes: &[u8], kept: Kept) -> Result<Versions, NoMemory>
         requires { IsTableOf table.now bytes.now }
-        ensures { IfOk result (λ v. v ≡ lists_in bytes.now kept.words.items kept.places.items kept.definitions.items kept.needs.file_words.items kept.needs.asks.items) }
+        ensures { IfOk result
+            (λ v. v
+            ≡ lists_in bytes.now kept.words.items kept.places.items kept.definitions.items
+            kept.needs.file_words.items kept.needs.asks.items) }
     {
         let Kept {
             words,

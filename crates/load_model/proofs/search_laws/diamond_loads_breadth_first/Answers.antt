@@ -2,7 +2,7 @@ use Rattle.std.proofs.Common.{refl, ◌≡◌, true}
 use Rattle.std.specs.Prelude.{codes}
 use Rattle.std.specs.Str.{is_utf8}
 use Rattle.path_text.specs.Path.{named_parts, path_fault, rooted}
-use Rattle.load_model.specs.Candidates.{candidates, chain, decision, first_decision, loader_in, path_search, refused_text, search_items}
+use Rattle.load_model.specs.Candidates.{candidates, loader_chain, decision, first_decision, loader_in, path_search, refused_text, search_items}
 use Rattle.load_model.specs.LoadList.{phase, found_for, walk}
 use Rattle.load_model.specs.Loads.{goes_to, program_at}
 use Rattle.load_model.specs.RunPaths.{items_of, parts_behind}
@@ -36,13 +36,13 @@ unfolding program_at
 returns-clause-program c = refl
 
 pub returns-clause-order : goal.returns-clause-order
-unfolding walk phase found_for goes_to path_search candidates chain decision first_decision loader_in refused_text search_items items_of parts_behind named_parts path_fault rooted
+unfolding walk phase found_for goes_to path_search candidates loader_chain decision first_decision loader_in refused_text search_items items_of parts_behind named_parts path_fault rooted
 returns-clause-order c = rw (own_a, own_b, listed_b, own_c, own_d, listed_d) refl
 
 pub returns-clause-missing : goal.returns-clause-missing
-unfolding walk phase found_for goes_to path_search candidates chain decision first_decision loader_in refused_text search_items items_of parts_behind named_parts path_fault rooted
+unfolding walk phase found_for goes_to path_search candidates loader_chain decision first_decision loader_in refused_text search_items items_of parts_behind named_parts path_fault rooted
 returns-clause-missing c = rw (own_a, own_b, listed_b, own_c, listed_c) refl
 
 pub returns-clause-limit : goal.returns-clause-limit
-unfolding walk phase found_for goes_to path_search candidates chain decision first_decision loader_in refused_text search_items items_of parts_behind named_parts path_fault rooted
+unfolding walk phase found_for goes_to path_search candidates loader_chain decision first_decision loader_in refused_text search_items items_of parts_behind named_parts path_fault rooted
 returns-clause-limit c = rw (own_a, own_b, listed_b, own_c, own_d, listed_d) refl

@@ -6,7 +6,7 @@ use Rattle.path_text.specs.FileName.{IsFileName}
 use Rattle.path_text.specs.Path.{IsNormalPath, named_parts, path_fault, path_of, rooted}
 use Rattle.path_text.proofs.NameLemmas.{IsFileName-from_test}
 use Rattle.path_text.proofs.PathLemmas.{IsNormalPath-path_of}
-use Rattle.load_model.specs.Candidates.{candidates, chain, decision, first_decision, listed_candidates, loader_in, path_search, refused_text, search_items}
+use Rattle.load_model.specs.Candidates.{candidates, loader_chain, decision, first_decision, listed_candidates, loader_in, path_search, refused_text, search_items}
 use Rattle.load_model.specs.Diamond.{asked_for, plain_face}
 use Rattle.load_model.specs.LoadList.{Object, Asked, Brought, IsAnswered, count_from, found_for}
 use Rattle.load_model.specs.Loads.{goes_to, program_at}
@@ -32,7 +32,7 @@ text_there : is_utf8 (codes "/usr/lib/a") ≡ true
 text_there = text (codes "/usr/lib/a") refl
 
 asked_a : IsAnswered (goes_to read_small small_setting small_world small_file.path) small_run.objs [] (asked_for 0 (codes "a") 1)
-unfolding count_from library goes_to found_for path_search candidates chain decision first_decision loader_in refused_text search_items named_parts path_fault rooted
+unfolding count_from library goes_to found_for path_search candidates loader_chain decision first_decision loader_in refused_text search_items named_parts path_fault rooted
 asked_a = record { asker = omega arith; found = Brought library; found_is = rw text_here refl; target = (refl, refl) }
 
 answered : (m : ℕ) (a : Asked) → slice_get small_run.log m ≡ Some a → IsAnswered (goes_to read_small small_setting small_world small_file.path) small_run.objs (take m small_run.log) a
