@@ -91,6 +91,13 @@ impl MemOut {
         self.finished.as_slice()
     }
 
+    /// The paths of the roots that were opened, in order.
+    pub fn roots(&self) -> &[Name]
+        ensures { result.now ≡ self.now.held.roots }
+    {
+        self.roots.as_slice()
+    }
+
     /// How many growths memory refused to the folder.
     pub fn refused(&self) -> u64
         ensures { result ≡ self.now.calls.refused }
