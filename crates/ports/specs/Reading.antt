@@ -1,10 +1,9 @@
 -- What a tree that tells its world says of a path.
-use Rattle.std.specs.Prelude.{ℕ, List, [], Option, Some, None, option_map, ◌≡◌, length}
+use Rattle.std.specs.Prelude.{ℕ, List, [], Option, Some, None, length}
 use Rattle.load_model.specs.World.{World, file_at}
 use Rattle.load_model.specs.declared.world.WorldFile.{WorldFile}
 use Rattle.ports.specs.declared.trees.Found.{Found}
 use Rattle.ports.specs.declared.trees.Found.TheVariants.{Absent, File}
-use Rattle.answers.specs.Told.{WhereTold}
 
 abbrev pub found_of : Option WorldFile → Found
 found_of None = Absent
@@ -21,8 +20,3 @@ bytes_of (Some file) = file.bytes
 -- the bytes of the world's file at the path, and none where there is no file
 abbrev pub bytes_at : World → List ℕ → List ℕ
 bytes_at world path = bytes_of (file_at world path)
-
--- where the tree tells its world, the path is a file of this length in it
-abbrev pub IsToldLength : Option World → List ℕ → ℕ → Type 0
-IsToldLength told path len =
-    WhereTold told (λ world. option_map (λ file. length file.bytes) (file_at world path) ≡ Some len)

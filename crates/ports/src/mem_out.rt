@@ -138,7 +138,7 @@ impl OutDir for MemOut {
         if self.calls.strikes(BEGIN) {
             return Err(Failed);
         }
-        let Ok(path) = copied(self.alloc, path) else {
+        let Ok(path) = path.copy(self.alloc) else {
             return Err(self.calls.refuse());
         };
         self.pending = Some(OpenFile {
@@ -224,18 +224,9 @@ fn keep(alloc: Global, finished: &mut List<MemFile>, file: &OpenFile) -> Result<
     ensures err { OnErr result (finished.new ≡ finished.old) }
 {
     let copy = MemFile {
-        path: copied(alloc, &file.path)?,
+        path: file.path.copy(alloc)?,
         executable: file.executable,
         bytes: Text::from_bytes(alloc, file.bytes.as_slice())?,
     };
     finished.push(copy)
-}
-
-fn copied(alloc: Global, path: &Rel) -> Result<Rel, NoMemory>
-    ensures { IfOk result (λ copy. copy ≡ path.now) }
-{
-    match Rel::read(alloc, path.as_str().as_bytes()) {
-        Ok(copy) => Ok(copy),
-        Err(_) => Err(NoMemory),
-    }
 }
