@@ -9,8 +9,6 @@ mod naming;
 mod normal;
 mod relative;
 mod scan;
-#[cfg(test)]
-mod tests;
 
 pub use absolute::{Abs, PathFault};
 pub use laws::{

@@ -1,4 +1,6 @@
-use super::*;
+//! Absolute paths in normal form, targets, and file names.
+
+use path_text::{Abs, PathFault, Rel, RelFault, is_file_name};
 use std::test::Fail;
 
 #[test]
