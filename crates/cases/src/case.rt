@@ -1,6 +1,6 @@
-//! The document: worlds, cases, cases of which each call fails in turn, and faces.
+//! The document: worlds, cases, and cases of which each call fails in turn.
 
-use crate::shape::ShapeFields;
+use case_files::{Bytes, Piece};
 use serde::Deserialize;
 
 #[derive(Drop, Deserialize)]
@@ -11,7 +11,6 @@ pub struct Document {
     pub case: Vec<Case>,
     /// Cases that are run again and again, each time with another call that fails.
     pub turns: Vec<Case>,
-    pub face: Vec<FaceRow>,
 }
 
 #[derive(Drop, Deserialize)]
@@ -43,27 +42,14 @@ pub struct Case {
     pub wants: Wants,
 }
 
-/// A file of the tree: its bytes as `hex`, or those of an object of a shape, cut and then changed.
+/// A file of the tree.
 #[derive(Drop, Deserialize)]
 #[serde(deny_unknown_fields)]
 pub struct File {
     pub path: String,
     /// Where it is absent it is the path.
     pub id: Option<String>,
-    pub hex: Option<String>,
-    pub shape: Option<ShapeFields>,
-    /// How many bytes of the file there are.
-    pub cut: Option<u64>,
-    #[serde(default)]
-    pub changes: Vec<Piece>,
-}
-
-/// Bytes at a place.
-#[derive(Drop, Deserialize)]
-#[serde(deny_unknown_fields)]
-pub struct Piece {
-    pub at: u64,
-    pub hex: String,
+    pub bytes: Bytes,
 }
 
 #[derive(Clone, Copy, PartialEq, Eq, Debug, Deserialize)]
@@ -113,13 +99,4 @@ pub struct WantedFile {
     /// Some of its bytes.
     #[serde(default)]
     pub pieces: Vec<Piece>,
-}
-
-/// A shape, and the lines of the face that the object of this shape is to have.
-#[derive(Drop, Deserialize)]
-#[serde(deny_unknown_fields)]
-pub struct FaceRow {
-    pub name: String,
-    pub wants: Vec<String>,
-    pub shape: ShapeFields,
 }

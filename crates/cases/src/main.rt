@@ -1,20 +1,15 @@
 //! Calls the program once for each case of a document, over a tree, a folder and a sink in memory,
 //! and prints each case that ends otherwise than it wants. Lets each call of some cases fail in
-//! turn. Sets the faces of made objects beside those that are wanted.
+//! turn.
 #![tactic(auto)]
 
 mod case;
-mod faces;
-mod fault;
-mod making;
 mod outside;
-mod shape;
 mod turns;
 mod wants;
 
-use case::{Case, Document, FaceRow, World};
-use faces::{face_text, wanted_text};
-use fault::Fault;
+use case::{Case, Document, World};
+use case_files::Fault;
 use ports::MemFile;
 use std::alloc::Global;
 use std::io;
@@ -38,10 +33,7 @@ fn run_document(rt: &HostRuntime, document: &Document) -> io::Result<()> {
     for case in document.turns.as_slice() {
         run_turns(rt, worlds, case)?;
     }
-    for row in document.face.as_slice() {
-        run_face(rt, row)?;
-    }
-    println!(rt; "{} faces", document.face.len())
+    Ok(())
 }
 
 /// Runs a case, and prints it where it differs.
@@ -92,27 +84,4 @@ fn run_turns(rt: &HostRuntime, worlds: &[World], case: &Case) -> io::Result<()> 
         }
     }
     println!(rt; "")
-}
-
-/// Reads the face of a made object, and prints it where it differs.
-fn run_face(rt: &HostRuntime, row: &FaceRow) -> io::Result<()> {
-    let name = row.name.as_str();
-    match differing_face(rt.alloc(), row) {
-        Ok(None) => Ok(()),
-        Ok(Some(text)) => {
-            let text = str::from_utf8(text.as_slice()).unwrap_or("a face that is no text");
-            println!(rt; "{name}:\n{}", text.trim_end())
-        }
-        Err(fault) => println!(rt; "{name}: {fault}"),
-    }
-}
-
-/// The face of a made object of which another is wanted.
-fn differing_face(alloc: Global, row: &FaceRow) -> Result<Option<Vec<u8>>, Fault> {
-    let text = face_text(alloc, row)?;
-    if text.as_slice() == wanted_text(alloc, row)?.as_slice() {
-        Ok(None)
-    } else {
-        Ok(Some(text))
-    }
 }

@@ -1,9 +1,8 @@
 //! The tree, the folder and the sink of a case, and the call.
 
 use crate::case::{Case, Failing, File, Method, World};
-use crate::fault::Fault;
-use crate::making::{bytes_of, link_of_chain};
 use appdir_cli::{Status, appdir_main};
+use case_files::{Fault, bytes_of, library_of};
 use load_model::{Name, NoMemory};
 use path_text::{Abs, Rel};
 use ports::{Failed, MemOut, MemSink, MemTree, OutDir};
@@ -108,7 +107,7 @@ fn is_absent(case: &Case, path: &str) -> bool {
 }
 
 fn add_file(alloc: Global, tree: &mut MemTree, file: &File) -> Result<(), Fault> {
-    let bytes = bytes_of(alloc, file)?;
+    let bytes = bytes_of(alloc, &file.bytes)?;
     let id = match &file.id {
         Some(id) => id.as_str(),
         None => file.path.as_str(),
@@ -132,11 +131,20 @@ fn add_chain(alloc: Global, tree: &mut MemTree, count: u32) -> Result<(), Fault>
     for number in 0..count {
         let path = format!(in alloc; "/usr/local/lib/lib{number}.so")?;
         let id = format!(in alloc; "{number}")?;
-        let is_last = number.saturating_add(1) == count;
-        let bytes = link_of_chain(alloc, number, is_last)?;
+        let bytes = link_of_chain(alloc, number, count)?;
         add(alloc, tree, path.as_str(), id.as_str(), bytes.as_slice())?;
     }
     Ok(())
+}
+
+/// The library of this number in a chain of so many.
+fn link_of_chain(alloc: Global, number: u32, count: u32) -> Result<Vec<u8>, Fault> {
+    let next = number.saturating_add(1);
+    if next < count {
+        library_of(alloc, Some(format!(in alloc; "lib{next}.so")?.as_str()))
+    } else {
+        library_of(alloc, None)
+    }
 }
 
 fn folder_of(alloc: Global, paths: &[String]) -> Result<MemOut, Fault> {

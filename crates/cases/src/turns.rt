@@ -1,10 +1,10 @@
 //! Cases of which each call fails in turn.
 
 use crate::case::{Case, Failing, Method, World};
-use crate::fault::Fault;
 use crate::outside::{call, let_fail, outside_of};
 use crate::wants::{Ending, are_first_wanted, is_as_wanted};
 use appdir_cli::Status;
+use case_files::Fault;
 use std::alloc::Global;
 
 /// How many calls of one method are tried.

@@ -1,10 +1,9 @@
 //! How a case ended, and how it wants to end.
 
-use crate::case::{Case, Piece, WantedFile, World};
-use crate::fault::Fault;
-use crate::making::{bytes_of, decoded};
+use crate::case::{Case, WantedFile, World};
 use crate::outside::{Outside, source};
 use appdir_cli::{Status, status_name};
+use case_files::{Fault, Piece, bytes_of, decoded};
 use ports::MemFile;
 use std::alloc::Global;
 
@@ -76,7 +75,7 @@ fn source_bytes(
     match &wanted.bytes_of {
         Some(path) => {
             let file = source(worlds, case, path.as_str())?;
-            Ok(Some(bytes_of(alloc, file)?))
+            Ok(Some(bytes_of(alloc, &file.bytes)?))
         }
         None => Ok(None),
     }

@@ -10,8 +10,6 @@ mod segment;
 mod strings;
 mod table;
 mod tags;
-#[cfg(test)]
-mod tests;
 
 pub use byte_view::Entry;
 pub use faults::DynFault;

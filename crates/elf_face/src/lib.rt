@@ -10,8 +10,6 @@ mod faults;
 mod interp;
 mod parts;
 mod symbols;
-#[cfg(test)]
-mod tests;
 mod texts;
 mod versions;
 

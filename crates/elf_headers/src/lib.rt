@@ -9,8 +9,6 @@ mod headers;
 mod ident;
 mod laws;
 mod segments;
-#[cfg(test)]
-mod tests;
 
 pub use byte_view::Segment;
 pub use faults::ElfFault;

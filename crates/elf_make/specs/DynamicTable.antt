@@ -2,11 +2,11 @@
 use Rattle.std.specs.Prelude.{ℕ, ◌+◌, ◌*◌, Bool, cond, List, [], ◌∷◌, ◌++◌, Option, Some, None, map, length, flat_map, replicate}
 use Rattle.byte_view.specs.declared.constants.TheConstants.{DT_NULL, DT_NEEDED, DT_HASH, DT_STRTAB, DT_SYMTAB, DT_STRSZ, DT_SYMENT, DT_SONAME, DT_RPATH, DT_SYMBOLIC, DT_RUNPATH, DT_GNU_HASH, DT_VERSYM, DT_VERDEF, DT_VERDEFNUM, DT_VERNEED, DT_VERNEEDNUM, SYM_SIZE}
 use Rattle.byte_view.specs.declared.dynamic.Entry.{Entry}
-use Rattle.elf_make.specs.Bytes.{longs}
-use Rattle.elf_make.specs.Texts.{string_place}
-use Rattle.elf_make.specs.Versions.{is_none_of, has_version_indexes, files_of}
-use Rattle.elf_make.specs.declared.shape.Shape.{Shape}
-use Rattle.elf_make.specs.declared.versions.Versions.{Versions}
+use Rattle.elf_shape.specs.Bytes.{longs}
+use Rattle.elf_shape.specs.Texts.{string_place}
+use Rattle.elf_shape.specs.Versions.{is_none_of, has_version_indexes, files_of}
+use Rattle.elf_shape.specs.declared.shape.Shape.{Shape}
+use Rattle.elf_shape.specs.declared.versions.Versions.{Versions}
 use Rattle.elf_make.specs.declared.parts.Parts.{Parts}
 use Rattle.elf_make.specs.declared.parts.Places.{Places}
 

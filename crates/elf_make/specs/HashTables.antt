@@ -2,9 +2,9 @@
 -- hash table)
 use Rattle.std.specs.Prelude.{ℕ, ◌+◌, ◌-◌, ◌*◌, ◌/◌, ◌%◌, ◌^◌, cond, List, [], ◌∷◌, ◌++◌, map, drop, fold, bit_or}
 use Rattle.std.specs.List.{range_with_len}
-use Rattle.elf_make.specs.Bytes.{words, longs}
-use Rattle.elf_make.specs.Versions.{is_none_of}
-use Rattle.elf_make.specs.declared.symbols.Symbol.{Symbol}
+use Rattle.elf_shape.specs.Bytes.{words, longs}
+use Rattle.elf_shape.specs.Versions.{is_none_of}
+use Rattle.elf_shape.specs.declared.symbols.Symbol.{Symbol}
 
 -- nbucket, nchain, the bucket, the chain: the bucket holds the greatest index, and each symbol
 -- leads to the one before

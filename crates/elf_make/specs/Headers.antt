@@ -2,9 +2,9 @@
 use Rattle.std.specs.Prelude.{ℕ, ◌+◌, ◌*◌, cond, ◌==◌, List, [], ◌∷◌, ◌++◌, length, flat_map, is_some}
 use Rattle.byte_view.specs.declared.constants.TheConstants.{EHDR_SIZE, PHDR_SIZE, SHDR_SIZE, ET_DYN, EV_CURRENT, PT_LOAD, PT_DYNAMIC, PT_INTERP, PT_PHDR, PF_R, PF_W, SHT_DYNSYM, SYM_SIZE}
 use Rattle.byte_view.specs.declared.segments.Segment.{Segment}
-use Rattle.elf_make.specs.Bytes.{halves, words, longs}
+use Rattle.elf_shape.specs.Bytes.{halves, words, longs}
 use Rattle.elf_make.specs.Parts.{wanted, segment_count}
-use Rattle.elf_make.specs.declared.shape.Shape.{Shape}
+use Rattle.elf_shape.specs.declared.shape.Shape.{Shape}
 use Rattle.elf_make.specs.declared.parts.Parts.{Parts}
 use Rattle.elf_make.specs.declared.parts.Places.{Places}
 

@@ -1,9 +1,4 @@
-pub mod Bytes
-pub mod Distinct
-pub mod Versions
-pub mod Texts
 pub mod VersionTables
-pub mod Symbols
 pub mod HashTables
 pub mod Parts
 pub mod DynamicTable

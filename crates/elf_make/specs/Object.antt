@@ -1,13 +1,13 @@
 -- A made file: its parts one behind the other
 use Rattle.std.specs.Prelude.{ℕ, ◌+◌, List, ◌++◌}
 use Rattle.byte_view.specs.declared.dynamic.Entry.{Entry}
-use Rattle.elf_make.specs.Versions.{made_versions}
-use Rattle.elf_make.specs.Texts.{shape_texts}
-use Rattle.elf_make.specs.Symbols.{made_symbols}
+use Rattle.elf_shape.specs.Versions.{made_versions}
+use Rattle.elf_shape.specs.Texts.{shape_texts}
+use Rattle.elf_shape.specs.Symbols.{made_symbols}
 use Rattle.elf_make.specs.Parts.{made_parts, parts_begin, places_of, part_bytes}
 use Rattle.elf_make.specs.DynamicTable.{entries_of, entry_bytes, dynamic_size}
 use Rattle.elf_make.specs.Headers.{file_header, segments_of, segment_bytes, sections_of}
-use Rattle.elf_make.specs.declared.shape.Shape.{Shape}
+use Rattle.elf_shape.specs.declared.shape.Shape.{Shape}
 use Rattle.elf_make.specs.declared.parts.Parts.{Parts}
 use Rattle.elf_make.specs.declared.parts.Places.{Places}
 

@@ -1,15 +1,15 @@
 -- The parts of a made file between its headers and its dynamic table, and where they stand
 use Rattle.std.specs.Prelude.{ℕ, ◌+◌, ◌*◌, Bool, cond, List, [], ◌++◌, Option, Some, None, length, is_some}
 use Rattle.byte_view.specs.declared.constants.TheConstants.{EHDR_SIZE, PHDR_SIZE}
-use Rattle.elf_make.specs.Bytes.{padded}
-use Rattle.elf_make.specs.Texts.{string_table, ended}
-use Rattle.elf_make.specs.Symbols.{symbol_table, version_indexes, plain_imports}
+use Rattle.elf_shape.specs.Bytes.{padded}
+use Rattle.elf_shape.specs.Texts.{string_table, ended}
+use Rattle.elf_shape.specs.Symbols.{symbol_table, version_indexes, plain_imports}
 use Rattle.elf_make.specs.HashTables.{made_sysv_table, made_gnu_table}
-use Rattle.elf_make.specs.Versions.{has_version_indexes}
+use Rattle.elf_shape.specs.Versions.{has_version_indexes}
 use Rattle.elf_make.specs.VersionTables.{verdef_of, verneed_of}
-use Rattle.elf_make.specs.declared.shape.Shape.{Shape}
-use Rattle.elf_make.specs.declared.symbols.Symbol.{Symbol}
-use Rattle.elf_make.specs.declared.versions.Versions.{Versions}
+use Rattle.elf_shape.specs.declared.shape.Shape.{Shape}
+use Rattle.elf_shape.specs.declared.symbols.Symbol.{Symbol}
+use Rattle.elf_shape.specs.declared.versions.Versions.{Versions}
 use Rattle.elf_make.specs.declared.parts.Parts.{Parts}
 use Rattle.elf_make.specs.declared.parts.Places.{Places}
 

@@ -3,10 +3,10 @@
 use Rattle.std.specs.Prelude.{ℕ, ◌+◌, ◌*◌, cond, ◌==◌, Bool, List, [], ◌∷◌, ◌++◌, Option, length, unwrap_or}
 use Rattle.byte_view.specs.declared.constants.TheConstants.{VER_CURRENT, VER_FLG_BASE, VER_FLG_WEAK}
 use Rattle.load_model.specs.declared.asks.Ask.{Ask}
-use Rattle.elf_make.specs.Bytes.{halves, words}
-use Rattle.elf_make.specs.Texts.{string_place}
-use Rattle.elf_make.specs.Versions.{is_none_of, asks_of_file, files_of, first_needed_index}
-use Rattle.elf_make.specs.declared.versions.Versions.{Versions}
+use Rattle.elf_shape.specs.Bytes.{halves, words}
+use Rattle.elf_shape.specs.Texts.{string_place}
+use Rattle.elf_shape.specs.Versions.{is_none_of, asks_of_file, files_of, first_needed_index}
+use Rattle.elf_shape.specs.declared.versions.Versions.{Versions}
 
 -- how far the next record is, where there is one
 abbrev pub next_after : {X : Type 0} → ℕ → List X → ℕ

@@ -3,20 +3,20 @@
 //! System V gABI, Dynamic Section.
 
 ghost use Rattle.std.specs.Prelude.{◌≡◌, ◌+◌, ◌++◌, ◌∷◌, [], map, replicate, OnOk, IfOk};
-ghost use Rattle.elf_make.specs.Texts.{string_place};
+ghost use Rattle.elf_shape.specs.Texts.{string_place};
 ghost use Rattle.elf_make.specs.DynamicTable.{tagged, where_wanted, naming, name_entries, table_entries, version_entries, end_entries, entries_of, entry_bytes, dynamic_size};
 
-use crate::numbers::push_longs;
 use crate::parts::{Parts, Places};
-use crate::shape::Shape;
-use crate::strings::Strings;
-use crate::versions::{Versions, files_of};
 use byte_view::Entry;
 use byte_view::constants::{
     DT_GNU_HASH, DT_HASH, DT_NEEDED, DT_NULL, DT_RPATH, DT_RUNPATH, DT_SONAME, DT_STRSZ, DT_STRTAB,
     DT_SYMBOLIC, DT_SYMENT, DT_SYMTAB, DT_VERDEF, DT_VERDEFNUM, DT_VERNEED, DT_VERNEEDNUM,
     DT_VERSYM, SYM_SIZE,
 };
+use elf_shape::Shape;
+use elf_shape::numbers::push_longs;
+use elf_shape::strings::Strings;
+use elf_shape::versions::{Versions, files_of};
 use load_model::{List, Name, NoMemory};
 use std::alloc::Global;
 

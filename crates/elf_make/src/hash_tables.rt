@@ -6,8 +6,8 @@ ghost use Rattle.std.specs.Prelude.{◌≡◌, ◌-◌, map, drop, IfOk};
 ghost use Rattle.std.specs.List.{range_with_len};
 ghost use Rattle.elf_make.specs.HashTables.{made_sysv_table, with_bits, bloom_word, chain_words, gnu_words, made_gnu_table};
 
-use crate::numbers::{push_longs, push_words};
-use crate::symbols::Symbol;
+use elf_shape::numbers::{push_longs, push_words};
+use elf_shape::symbols::Symbol;
 use load_model::{List, NoMemory, Text};
 use std::alloc::{AllocError, Global};
 

@@ -5,14 +5,14 @@
 ghost use Rattle.std.specs.Prelude.{◌≡◌, ◌+◌, ◌++◌, OnOk, IfOk};
 ghost use Rattle.elf_make.specs.Headers.{kind_words, table_words, file_header, segment, page_of, segments_of, segment_bytes, section_headers, sections_of};
 
-use crate::numbers::{push_bytes, push_halves, push_longs, push_words};
 use crate::parts::{Parts, Places, segment_count};
-use crate::shape::Shape;
 use byte_view::Segment;
 use byte_view::constants::{
     EHDR_SIZE, ET_DYN, EV_CURRENT, PF_R, PF_W, PHDR_SIZE, PT_DYNAMIC, PT_INTERP, PT_LOAD, PT_PHDR,
     SHDR_SIZE, SHT_DYNSYM, SYM_SIZE,
 };
+use elf_shape::Shape;
+use elf_shape::numbers::{push_bytes, push_halves, push_longs, push_words};
 use load_model::{List, NoMemory};
 use std::alloc::Global;
 

@@ -2,16 +2,16 @@
 
 ghost use Rattle.std.specs.Prelude.{◌≡◌, IfOk, OnOk};
 ghost use Rattle.elf_make.specs.Object.{made_file, made_object};
-ghost use Rattle.elf_make.specs.Versions.{HasFewVersions, made_versions};
+ghost use Rattle.elf_shape.specs.Versions.{HasFewVersions, made_versions};
 
 use crate::dynamic_table::{dynamic_size, entries_of, push_entries};
 use crate::headers::{push_file_header, push_sections, push_segments, segments_of};
 use crate::parts::{Parts, Places, object_parts, parts_begin, places_of, push_parts};
-use crate::shape::Shape;
-use crate::strings::strings_of;
-use crate::symbols::symbols_of;
-use crate::versions::versions_of;
 use byte_view::Entry;
+use elf_shape::Shape;
+use elf_shape::strings::strings_of;
+use elf_shape::symbols::symbols_of;
+use elf_shape::versions::versions_of;
 use load_model::{NoMemory, Text};
 use std::alloc::Global;
 

@@ -2,18 +2,18 @@
 
 ghost use Rattle.std.specs.Prelude.{◌≡◌, ◌+◌, ◌++◌, length, OnOk, IfOk};
 ghost use Rattle.elf_make.specs.HashTables.{made_sysv_table, made_gnu_table};
-ghost use Rattle.elf_make.specs.Symbols.{plain_imports, version_indexes as version_words};
-ghost use Rattle.elf_make.specs.Versions.{has_version_indexes};
-ghost use Rattle.elf_make.specs.Parts.{wanted, made_interp, made_parts, segment_count, parts_begin, places_of, symbol_parts, version_parts, part_bytes};
+ghost use Rattle.elf_shape.specs.Symbols.{plain_imports, version_indexes as version_words};
+ghost use Rattle.elf_shape.specs.Versions.{has_version_indexes};
+ghost use Rattle.elf_make.specs.Parts.{after, wanted, made_interp, made_parts, segment_count, parts_begin, places_of, symbol_parts, version_parts, part_bytes};
 
 use crate::hash_tables::{gnu_table, sysv_table};
-use crate::numbers::{after, push_bytes, push_padded};
-use crate::shape::Shape;
-use crate::strings::Strings;
-use crate::symbols::{Symbol, count_of, count_plain, symbol_table, version_indexes};
 use crate::version_tables::{verdef_of, verneed_of};
-use crate::versions::Versions;
 use byte_view::constants::{EHDR_SIZE, PHDR_SIZE};
+use elf_shape::Shape;
+use elf_shape::numbers::{gap, push_bytes, push_padded};
+use elf_shape::strings::Strings;
+use elf_shape::symbols::{Symbol, count_of, count_plain, symbol_table, version_indexes};
+use elf_shape::versions::Versions;
 use load_model::{Name, NoMemory, Text};
 use std::alloc::Global;
 
@@ -188,4 +188,13 @@ pub(crate) fn push_parts(out: &mut Vec<u8>, parts: &Parts) -> Result<(), NoMemor
 {
     push_symbol_parts(out, parts)?;
     push_version_parts(out, parts)
+}
+
+/// Where a part ends, filled up, that begins at a place.
+#[tactic(auto, unfolding(elf_shape::specs::Bytes::padded))]
+pub fn after(place: u64, part: &[u8]) -> Result<u64, NoMemory>
+    ensures { IfOk result (λ end. end ≡ after place part.now) }
+{
+    let end = place as u128 + part.len() as u128 + gap(part.len()) as u128;
+    u64::try_from(end).map_err(|_| NoMemory)
 }

@@ -5,11 +5,11 @@
 ghost use Rattle.std.specs.Prelude.{◌≡◌, ◌+◌, ◌*◌, ◌++◌, OnOk, IfOk};
 ghost use Rattle.elf_make.specs.VersionTables.{definition_record, definitions_from, verdef_of, ask_record, asks_from, need_record, need_records, need_records_from, verneed_of};
 
-use crate::numbers::{push_halves, push_words};
-use crate::strings::Strings;
-use crate::symbols::count_of;
-use crate::versions::{Versions, asks_of, files_of, index_at};
 use byte_view::constants::{VER_CURRENT, VER_FLG_BASE, VER_FLG_WEAK};
+use elf_shape::numbers::{push_halves, push_words};
+use elf_shape::strings::Strings;
+use elf_shape::symbols::count_of;
+use elf_shape::versions::{Versions, asks_of, files_of, index_at};
 use load_model::{Ask, Name, NoMemory, Text};
 use std::alloc::Global;
 

@@ -18,8 +18,6 @@ mod sysv;
 mod table;
 mod tables;
 mod tags;
-#[cfg(test)]
-mod tests;
 mod words;
 
 pub use byte_view::Flaw;

@@ -17,8 +17,6 @@ mod needs;
 mod records;
 mod symbols;
 mod tables;
-#[cfg(test)]
-mod tests;
 mod versions;
 
 pub use faults::VersionFault;

@@ -1,6 +1,6 @@
 use Rattle.std.specs.Prelude.{◌≡◌, ◌++◌, drop, map}
 use Rattle.byte_view.specs.declared.constants.TheConstants.{DT_NEEDED}
-use Rattle.elf_make.specs.Texts.{string_place}
+use Rattle.elf_shape.specs.Texts.{string_place}
 use Rattle.elf_make.specs.DynamicTable.{tagged}
 use Rattle.elf_make.proofs.dynamic_table.push_needs.Given as goal
 

@@ -1,6 +1,0 @@
-use Rattle.std.specs.Prelude.{◌≡◌, ◌++◌, drop}
-use Rattle.elf_make.specs.Bytes.{halves}
-use Rattle.elf_make.proofs.numbers.push_halves.Given as goal
-
-abbrev pub invariant-loop-number : goal.invariant-loop-number
-invariant-loop-number l = l.out.items ++ halves (drop l.number-index l.numbers) ≡ l.fn.out.items ++ halves l.numbers

@@ -1,0 +1,5 @@
+pub mod Bytes
+pub mod Distinct
+pub mod Versions
+pub mod Texts
+pub mod Symbols
