@@ -1,5 +1,5 @@
 -- Steps from one symbol of a chain to others, and the depths that are kept of them.
-use Rattle.std.proofs.Common.{◌≡◌, ◌≢◌, ℕ, zero, suc, ◌+◌, ◌-◌, ◌<◌, ◌≤◌, ◌==◌, ◌&&◌, ◌||◌, Bool, true, false, cond, List, [], ◌∷◌, ◌++◌, length, set, refl, arith, sym, ap, ◌∙◌, subst, get_or-set_same, get_or-set_other, length-append}
+use Rattle.std.proofs.Common.{◌≡◌, ◌≢◌, ℕ, zero, suc, ◌+◌, ◌-◌, ◌<◌, ◌≤◌, ◌==◌, ◌&&◌, ◌||◌, Bool, true, false, cond, List, [], ◌∷◌, ◌++◌, length, set, refl, arith, sym, ap, ◌∙◌, subst, get_or-set_same, get_or-set_other, length-append, get_or, drop, add-one, drop-cons}
 use Rattle.std.proofs.lemmas.List.{length-set}
 use Rattle.std.specs.Prelude.{slice_index, nat_le}
 use Rattle.std.specs.List.{list_all, list_any}
@@ -166,6 +166,15 @@ pub jump_shallow : (chains depths jumps : List ℕ) (v : ℕ) → AreDepths chai
 jump_shallow chains depths jumps v a known =
     reach_depth chains depths v (slice_index jumps v) known (jump_known chains depths jumps v a known) (jump_reached chains depths jumps v a known)
 
+pub record IsJump (chains depths : List ℕ) (v w : ℕ) : Type 0 where
+  pub known : IsKnown chains depths w
+  pub reached : Reaches chains v w
+  pub shallow : slice_index depths w ≤ slice_index depths v
+
+pub jump_is : (chains depths jumps : List ℕ) (v w : ℕ) → AreDepths chains depths jumps → IsKnown chains depths v → w ≡ slice_index jumps v → IsJump chains depths v w
+jump_is chains depths jumps v w a known e =
+    subst (λ x. IsJump chains depths v x) (sym e) (record { known = jump_known chains depths jumps v a known; reached = jump_reached chains depths jumps v a known; shallow = jump_shallow chains depths jumps v a known })
+
 -- links name symbols
 pub link_within : (n v : ℕ) → is_link n v ≡ true → v ≢ 0 → v < n
 link_within n v e h = grind (arith, nat_tests)
@@ -230,6 +239,16 @@ way_ends chains depths first symbols end w known =
 
 pub all_links_at : (n : ℕ) (words : List ℕ) (i : ℕ) → list_all (λ w. is_link n w) words ≡ true → is_link n (slice_index words i) ≡ true
 all_links_at n words i e = link_next n words i e
+
+-- what holds of all from one place on, of one more
+pub all_step : (P : ℕ → Bool) (xs : List ℕ) (i : ℕ) → i < length xs → P (slice_index xs i) ≡ true → list_all P (drop i xs) ≡ list_all P (drop (i + 1) xs)
+all_step P xs i h e = let d : drop i xs ≡ get_or xs i 0 ∷ drop (i + 1) xs = rw (add-one, drop-cons xs i 0) refl in rw (d, e) refl
+
+pub all_done : (P : ℕ → Bool) (xs : List ℕ) (i : ℕ) → length xs ≤ i → list_all P (drop i xs) ≡ true
+all_done P [] zero h = refl
+all_done P [] (suc i) h = refl
+all_done P (x ∷ xs) zero h = absurd (omega arith)
+all_done P (x ∷ xs) (suc i) h = all_done P xs i (omega arith)
 
 -- where a symbol stands
 few_of : (chains depths jumps : List ℕ) (v : ℕ) → AreDepths chains depths jumps → slice_index depths v ≤ length chains

@@ -8,7 +8,7 @@ ghost use Rattle.dyn_table.specs.Table.{IsTableOf};
 ghost use Rattle.load_model.specs.SymbolFlaws.{count_by, count_flaw, symbol_flaw, symbol_flaw_by};
 ghost use Rattle.sym_tables.specs.Faults.{symbol_fault_flaw};
 ghost use Rattle.sym_tables.specs.FoundTables.{HasBucket};
-ghost use Rattle.sym_tables.specs.Listing.{file_strings, gnu_of, lists_flaw, sysv_of};
+ghost use Rattle.sym_tables.specs.Listing.{file_strings, flaw_behind_tables, gnu_of, lists_flaw, sysv_of};
 ghost use Rattle.sym_tables.specs.ReadSymbols.{AreSymsBy, AreHashTablesOf, IsSymsOf};
 
 use crate::count::{check_count, section_count};
@@ -97,7 +97,7 @@ impl Syms {
     }
 
     /// The same over the entries of the dynamic table.
-    #[tactic(auto, unfolding(load_model::specs::SymbolFlaws::symbol_flaw_by), using(crate::proofs::Whole::list_is, crate::proofs::Whole::tables_sound))]
+    #[tactic(auto, unfolding(load_model::specs::SymbolFlaws::symbol_flaw_by, crate::specs::Listing::flaw_behind_tables))]
     fn read_by(alloc: Global, elf: &Elf, table: &Dyn, bytes: &[u8]) -> Result<Syms, SymFault>
         requires elf { IsReadFrom elf.now bytes.now }
         requires table { IsTableOf table.now bytes.now }
@@ -105,12 +105,31 @@ impl Syms {
             table.now.entries) }
         ensures table { IfOk result (λ s. AreSymsBy s bytes.now elf.now table.now.entries) }
     {
+        check_symbol_size(table.entries())?;
+        let tables = Tables::read(alloc, elf, bytes, table.entries())?;
+        Syms::by_tables(alloc, elf, table, bytes, &tables)
+    }
+
+    /// The same, once the hash tables are read.
+    #[tactic(auto, unfolding(crate::specs::Listing::flaw_behind_tables), using(crate::proofs::Whole::list_is, crate::proofs::Whole::tables_sound))]
+    fn by_tables(
+        alloc: Global,
+        elf: &Elf,
+        table: &Dyn,
+        bytes: &[u8],
+        tables: &Tables,
+    ) -> Result<Syms, SymFault>
+        requires elf { IsReadFrom elf.now bytes.now }
+        requires table { IsTableOf table.now bytes.now }
+        requires tables { AreHashTablesOf tables.now bytes.now elf.now table.now.entries }
+        ensures flaw { TellsBy symbol_fault_flaw result (flaw_behind_tables bytes.now elf.now
+            table.now.entries) }
+        ensures table { IfOk result (λ s. AreSymsBy s bytes.now elf.now table.now.entries) }
+    {
         let entries = table.entries();
-        check_symbol_size(entries)?;
-        let tables = Tables::read(alloc, elf, bytes, entries)?;
-        let count = count_of(elf, bytes, entries, &tables)?;
+        let count = count_of(elf, bytes, entries, tables)?;
         let symbols = read_symbols(alloc, elf, bytes, symbols_at(entries), count)?;
-        check_list(table, bytes, &tables, &symbols)?;
+        check_list(table, bytes, tables, &symbols)?;
         Ok(Syms {
             symbols,
             hash: tables.hash_range(),

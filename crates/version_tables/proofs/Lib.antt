@@ -4,6 +4,7 @@ pub mod Walks
 pub mod Places
 pub mod DefinitionSteps
 pub mod AskedSteps
+pub mod LoopLemmas
 pub mod NeedSteps
 pub mod SymbolWords
 pub mod FirstNames
