@@ -2,20 +2,11 @@
 //! the work.
 #![tactic(auto)]
 
-mod counting;
-mod folder;
-#[cfg(test)]
-mod scratch;
-mod sink;
-mod tree;
-
 use appdir_cli::{Status, appdir_main, exit_number, status_name};
-use folder::RealOut;
-use sink::RealSink;
+use real_files::{RealOut, RealSink, RealTree};
 use std::io::ErrorKind;
 use std::process::ExitCode;
 use std::{env, io};
-use tree::RealTree;
 
 fn main(rt: HostRuntime) -> ExitCode {
     let status = run(&rt);

@@ -43,6 +43,13 @@ impl<R: Files + AllocGlobal + Drop> RealTree<R> {
         }
     }
 
+    /// How many errors there were. The count stands still at its last value.
+    pub fn faults(&self) -> u64
+        ensures { result ≡ self.now.faults }
+    {
+        self.faults
+    }
+
     /// What is at the path, where the system has an answer. A file is kept open for the reads.
     fn look(&mut self, alloc: Global, path: &str) -> io::Result<Found>
         ensures faults { self.new.faults ≡ self.old.faults }
@@ -83,7 +90,7 @@ impl<R: Files + AllocGlobal + Drop> RealTree<R> {
 impl<R: Files + AllocGlobal + Drop> Tree for RealTree<R> {
     ghost use Rattle.std.proofs.Common.{rules};
     ghost use Rattle.answers.specs.Faults.{Rose};
-    ghost use Rattle.appdir.specs.Counting.{CountsErrors, counts};
+    ghost use Rattle.real_files.specs.Counting.{CountsErrors, counts};
 
     ghost seen = { λ tree. counts tree.faults };
 
@@ -203,127 +210,4 @@ fn read_some<F: Read>(file: &mut F, buf: &mut [u8]) -> io::Result<usize>
         }
     }
     file.read(buf)
-}
-
-#[cfg(test)]
-mod tests {
-    use super::*;
-    use crate::scratch;
-    use std::os::unix::fs::symlink;
-    use std::test::Fail;
-
-    /// The length and the identity of the file that was found, as a text.
-    fn text_of(rt: &impl AllocGlobal, found: Found) -> Result<String, Fail> {
-        match found {
-            Found::Absent => Ok(String::from_str(rt.alloc(), "absent")?),
-            Found::File { id, len } => {
-                let id = std::str::from_utf8(id.as_bytes())?;
-                Ok(format!(in rt.alloc(); "{len} {id}")?)
-            }
-        }
-    }
-
-    #[test]
-    fn finds_regular_files_alone(rt: HostRuntime) -> Result<(), Fail> {
-        let folder = scratch::empty_folder(&rt, "tree")?;
-        let file = scratch::below(&rt, folder.as_str(), "file")?;
-        fs::write(&rt, file.as_str(), "0123456789")?;
-        let link = scratch::below(&rt, folder.as_str(), "link")?;
-        symlink(&rt, "file", link.as_str())?;
-        let dangling = scratch::below(&rt, folder.as_str(), "dangling")?;
-        symlink(&rt, "nowhere", dangling.as_str())?;
-
-        let real = fs::canonicalize(&rt, file.as_str())?;
-        let real = real.as_str();
-        let there = format!(in rt.alloc(); "10 {real}")?;
-        let mut long = String::new(rt.alloc());
-        for _ in 0..300 {
-            long.push('a')?;
-        }
-        let mut tree = RealTree::new(&rt);
-        for (name, wanted) in [
-            ("file", there.as_str()),
-            ("link", there.as_str()),
-            ("dangling", "absent"),
-            ("", "absent"),
-            ("nothing", "absent"),
-            ("nothing/below", "absent"),
-            ("file/below", "absent"),
-            (long.as_str(), "absent"),
-        ] {
-            let path = scratch::below(&rt, folder.as_str(), name)?;
-            let found = tree.probe(rt.alloc(), &path)?;
-            let found = text_of(&rt, found)?;
-            assert_eq!(rt; found.as_str(), wanted, "at {name}");
-        }
-        assert_eq!(rt; tree.faults, 0);
-        fs::remove_dir_all(&rt, folder.as_str())?;
-        Ok(())
-    }
-
-    #[test]
-    fn reads_in_pieces(rt: HostRuntime) -> Result<(), Fail> {
-        let folder = scratch::empty_folder(&rt, "pieces")?;
-        let digits = scratch::below(&rt, folder.as_str(), "digits")?;
-        let letters = scratch::below(&rt, folder.as_str(), "letters")?;
-        fs::write(&rt, digits.as_str(), "0123456789")?;
-        fs::write(&rt, letters.as_str(), "abcdefghij")?;
-        let mut tree = RealTree::new(&rt);
-        for (path, at, piece) in [
-            (&digits, 0, "0123"),
-            (&digits, 4, "4567"),
-            (&letters, 8, "ij"),
-            (&digits, 8, "89"),
-            (&digits, 2, "2345"),
-        ] {
-            let mut buf = [0u8; 4];
-            let n = tree.read_at(path, at, &mut buf).ok().unwrap_or(0);
-            assert!(rt; n <= 4);
-            assert_eq!(rt; &buf[..n], piece.as_bytes(), "from {at} on");
-        }
-        assert_eq!(rt; tree.faults, 0);
-        fs::remove_dir_all(&rt, folder.as_str())?;
-        Ok(())
-    }
-
-    #[test]
-    fn counts_its_faults(rt: HostRuntime) -> Result<(), Fail> {
-        let folder = scratch::empty_folder(&rt, "read-faults")?;
-        let missing = scratch::below(&rt, folder.as_str(), "missing")?;
-        let digits = scratch::below(&rt, folder.as_str(), "digits")?;
-        let looped = scratch::below(&rt, folder.as_str(), "looped")?;
-        fs::write(&rt, digits.as_str(), "0123456789")?;
-        symlink(&rt, "looped", looped.as_str())?;
-        let mut tree = RealTree::new(&rt);
-        let mut buf = [0u8; 4];
-        assert_eq!(rt; tree.read_at(&missing, 0, &mut buf), Err(Failed));
-        assert_eq!(rt;
-            tree.read_at(&digits, 10, &mut buf),
-            Err(Failed),
-            "at the end"
-        );
-        assert_eq!(rt;
-            tree.read_at(&digits, u64::MAX, &mut buf),
-            Err(Failed),
-            "no place"
-        );
-        assert!(rt;
-            tree.probe(rt.alloc(), &looped).is_err(),
-            "links in a circle"
-        );
-        assert_eq!(rt; tree.faults, 4);
-        let there = tree.probe(rt.alloc(), &digits)?;
-        assert!(rt; matches!(&there, Found::File { len: 10, .. }));
-        assert_eq!(rt; tree.read_at(&digits, 0, &mut buf), Ok(4));
-        fs::write(&rt, digits.as_str(), "01234567890")?;
-        assert_eq!(rt;
-            tree.read_at(&digits, 4, &mut buf),
-            Err(Failed),
-            "another length"
-        );
-        assert_eq!(rt; tree.read_at(&digits, 4, &mut buf), Ok(4), "opened anew");
-        assert_eq!(rt; tree.faults, 5);
-        fs::remove_dir_all(&rt, folder.as_str())?;
-        Ok(())
-    }
 }

@@ -1,7 +1,7 @@
 //! The folder of this machine that is written.
 
 ghost use Rattle.std.specs.Prelude.{◌≡◌, ◌≤◌, IsSome, IsNone, OnErr, OnOk};
-ghost use Rattle.appdir.specs.Writing.{TakesPiece};
+ghost use Rattle.real_files.specs.Writing.{TakesPiece};
 
 use crate::counting::counted;
 use path_text::{Abs, Rel};
@@ -59,6 +59,13 @@ impl<R: Files + AllocGlobal + Clone + Drop> RealOut<R> {
             writing: None,
             faults: 0,
         }
+    }
+
+    /// How many errors there were. The count stands still at its last value.
+    pub fn faults(&self) -> u64
+        ensures { result ≡ self.now.faults }
+    {
+        self.faults
     }
 
     /// Removes the open file, where there is one and that can be done.
@@ -154,7 +161,7 @@ impl<R: Files + AllocGlobal + Clone + Drop> RealOut<R> {
 }
 
 impl<R: Files + AllocGlobal + Clone + Drop> OutDir for RealOut<R> {
-    ghost use Rattle.appdir.specs.Counting.{CountsErrors, counts};
+    ghost use Rattle.real_files.specs.Counting.{CountsErrors, counts};
 
     ghost seen = { λ folder. counts folder.faults };
 
@@ -266,137 +273,5 @@ where
         // the name of this entry is no text
         Some(Err(error)) if error.kind() == ErrorKind::InvalidFilename => Ok(RootState::NotEmpty),
         Some(Err(error)) => Err(error),
-    }
-}
-
-#[cfg(test)]
-mod tests {
-    use super::*;
-    use crate::scratch;
-    use std::os::unix::fs::symlink;
-    use std::test::Fail;
-
-    /// Writes a file of the bytes `two pieces`.
-    fn write_file<R: Files + AllocGlobal + Clone + Drop>(
-        out: &mut RealOut<R>,
-        path: &Rel,
-        executable: bool,
-    ) -> Result<(), Failed> {
-        out.begin(path, executable)?;
-        out.append(b"two ")?;
-        out.append(b"")?;
-        out.append(b"pieces")?;
-        out.finish()
-    }
-
-    fn mode_of(rt: &impl Files, path: &Abs) -> Result<u32, Fail> {
-        Ok(fs::metadata(rt, path.as_str())?.permissions().mode())
-    }
-
-    #[test]
-    fn writes_files_and_their_execute_bits(rt: HostRuntime) -> Result<(), Fail> {
-        let folder = scratch::empty_folder(&rt, "out")?;
-        let root = scratch::below(&rt, folder.as_str(), "made/anew")?;
-        let mut out = RealOut::new(&rt);
-        assert_eq!(rt; out.root(&root), Ok(RootState::Empty));
-        assert_eq!(rt; out.root(&root), Ok(RootState::Empty));
-        let tool = scratch::target(&rt, "usr/lib/tool")?;
-        let list = scratch::target(&rt, "list.txt")?;
-        assert_eq!(rt; write_file(&mut out, &tool, true), Ok(()));
-        assert_eq!(rt; write_file(&mut out, &list, false), Ok(()));
-        assert_eq!(rt; out.root(&root), Ok(RootState::NotEmpty));
-        assert_eq!(rt; out.faults, 0);
-        let usual = scratch::below(&rt, folder.as_str(), "usual")?;
-        fs::write(&rt, usual.as_str(), "")?;
-        let mode = mode_of(&rt, &usual)?;
-        for (name, execute_bits) in [("usr/lib/tool", 0o111), ("list.txt", 0)] {
-            let file = scratch::below(&rt, root.as_str(), name)?;
-            let bytes = fs::read(&rt, file.as_str())?;
-            assert_eq!(rt; bytes.as_slice(), b"two pieces".as_slice(), "of {name}");
-            let allowed = (mode >> 2) & execute_bits;
-            assert_eq!(rt; mode_of(&rt, &file)?, mode | allowed, "of {name}");
-        }
-        let unfinished = scratch::below(&rt, root.as_str(), UNFINISHED)?;
-        assert!(rt; !fs::exists(&rt, unfinished.as_str())?);
-        fs::remove_dir_all(&rt, folder.as_str())?;
-        Ok(())
-    }
-
-    #[test]
-    fn any_entry_makes_a_root_not_empty(rt: HostRuntime) -> Result<(), Fail> {
-        let folder = scratch::empty_folder(&rt, "entries")?;
-        let mut out = RealOut::new(&rt);
-        for name in ["file", "folder", "link", ".hidden"] {
-            let root = scratch::below(&rt, folder.as_str(), name)?;
-            assert_eq!(rt; out.root(&root), Ok(RootState::Empty), "{name}");
-            let entry = scratch::below(&rt, root.as_str(), name)?;
-            match name {
-                "folder" => fs::create_dir(&rt, entry.as_str())?,
-                "link" => symlink(&rt, "nowhere", entry.as_str())?,
-                _ => fs::write(&rt, entry.as_str(), "")?,
-            }
-            assert_eq!(rt; out.root(&root), Ok(RootState::NotEmpty), "{name}");
-        }
-        fs::remove_dir_all(&rt, folder.as_str())?;
-        Ok(())
-    }
-
-    #[test]
-    fn unfinished_files_are_removed(rt: HostRuntime) -> Result<(), Fail> {
-        let folder = scratch::empty_folder(&rt, "unfinished")?;
-        let root = scratch::below(&rt, folder.as_str(), "root")?;
-        let file = scratch::target(&rt, "file")?;
-        let place = scratch::below(&rt, root.as_str(), "file")?;
-        let unfinished = scratch::below(&rt, root.as_str(), UNFINISHED)?;
-        let mut out = RealOut::new(&rt);
-        for way in ["root", "end", "taken place"] {
-            assert_eq!(rt; out.root(&root), Ok(RootState::Empty), "{way}");
-            assert_eq!(rt; out.begin(&file, true), Ok(()), "{way}");
-            assert_eq!(rt; out.append(b"piece"), Ok(()), "{way}");
-            assert!(rt; fs::exists(&rt, unfinished.as_str())?, "{way}");
-            assert!(rt; !fs::exists(&rt, place.as_str())?, "{way}");
-            match way {
-                "root" => assert_eq!(rt; out.root(&root), Ok(RootState::Empty)),
-                "end" => out.give_up(),
-                _ => {
-                    symlink(&rt, "nowhere", place.as_str())?;
-                    assert_eq!(rt; out.finish(), Err(Failed));
-                }
-            }
-            assert!(rt; !fs::exists(&rt, unfinished.as_str())?, "{way}");
-        }
-        assert!(rt; fs::symlink_metadata(&rt, place.as_str())?.is_symlink());
-        assert_eq!(rt; out.faults, 1);
-        fs::remove_dir_all(&rt, folder.as_str())?;
-        Ok(())
-    }
-
-    #[test]
-    fn counts_its_faults(rt: HostRuntime) -> Result<(), Fail> {
-        let folder = scratch::empty_folder(&rt, "faults")?;
-        let root = scratch::below(&rt, folder.as_str(), "root")?;
-        let file = scratch::target(&rt, "file")?;
-        let mut out = RealOut::new(&rt);
-        assert_eq!(rt; out.begin(&file, false), Err(Failed), "no root is opened");
-        assert_eq!(rt; out.root(&root), Ok(RootState::Empty));
-        assert_eq!(rt; out.append(b"piece"), Err(Failed), "no file is open");
-        assert_eq!(rt; out.finish(), Err(Failed), "no file is open");
-        assert_eq!(rt; write_file(&mut out, &file, false), Ok(()));
-        assert_eq!(rt;
-            write_file(&mut out, &file, true),
-            Err(Failed),
-            "a file stands there"
-        );
-        let inner = scratch::target(&rt, "file/inner")?;
-        assert_eq!(rt;
-            out.begin(&inner, false),
-            Err(Failed),
-            "a file is no folder"
-        );
-        let wrong_root = scratch::below(&rt, root.as_str(), "file")?;
-        assert_eq!(rt; out.root(&wrong_root), Err(Failed), "a file is no root");
-        assert_eq!(rt; out.faults, 6);
-        fs::remove_dir_all(&rt, folder.as_str())?;
-        Ok(())
     }
 }

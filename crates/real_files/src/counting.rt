@@ -4,7 +4,7 @@
 
 ghost use Rattle.std.specs.Prelude.{◌≡◌, ◌≤◌, IfOk, IsErr, OnErr};
 ghost use Rattle.answers.specs.Faults.{Rose};
-ghost use Rattle.appdir.specs.Counting.{CountsErrors};
+ghost use Rattle.real_files.specs.Counting.{CountsErrors};
 
 use ports::Failed;
 use std::io;
