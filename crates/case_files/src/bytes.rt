@@ -1,35 +1,26 @@
 //! The bytes of a file.
+//!
+//! They are those of `hex` or of an object of a `shape`. They are `cut` to a length, and then
+//! `changes` are made in them, each of `hex` at the place `at`.
 
 use crate::fault::Fault;
-use crate::shape::{ShapeFields, library_shape, shape_of};
+use crate::row::Row;
+use crate::shape::{library_shape, shape_of};
 use elf_make::{Shape, make_object};
-use serde::Deserialize;
+use load_model::Name;
 use std::alloc::Global;
+use toml::Value;
 
-/// The bytes of a file: those of `hex`, or those of an object of a shape, cut and then changed.
-#[derive(Drop, Deserialize)]
-#[serde(deny_unknown_fields)]
-pub struct Bytes {
-    pub hex: Option<String>,
-    pub shape: Option<ShapeFields>,
-    /// How many bytes of the file there are.
-    pub cut: Option<u64>,
-    #[serde(default)]
-    pub changes: Vec<Piece>,
-}
-
-/// Bytes at a place.
-#[derive(Drop, Deserialize)]
-#[serde(deny_unknown_fields)]
-pub struct Piece {
-    pub at: u64,
-    pub hex: String,
-}
-
-/// The bytes that the fields say.
-pub fn bytes_of(alloc: Global, fields: &Bytes) -> Result<Vec<u8>, Fault> {
-    let bytes = whole(alloc, fields)?;
-    altered(alloc, bytes, fields.cut, fields.changes.as_slice())
+/// The bytes that a table says.
+pub fn bytes_of(alloc: Global, table: &Value) -> Result<Vec<u8>, Fault> {
+    let row = Row::of(table, &["hex", "shape", "cut", "changes"])?;
+    let bytes = whole(alloc, &row)?;
+    altered(
+        alloc,
+        bytes,
+        row.number_if_any("cut")?,
+        row.list("changes")?,
+    )
 }
 
 /// The bytes, cut and then changed.
@@ -37,7 +28,7 @@ pub fn altered(
     alloc: Global,
     mut bytes: Vec<u8>,
     count: Option<u64>,
-    changes: &[Piece],
+    changes: &[Value],
 ) -> Result<Vec<u8>, Fault> {
     cut(&mut bytes, count)?;
     for piece in changes {
@@ -47,18 +38,27 @@ pub fn altered(
 }
 
 /// The object of a shape.
-pub fn object_of(alloc: Global, fields: &ShapeFields) -> Result<Vec<u8>, Fault> {
-    made(alloc, &shape_of(alloc, fields)?)
+pub fn object_of(alloc: Global, shape: &Value) -> Result<Vec<u8>, Fault> {
+    made(alloc, &shape_of(alloc, shape)?)
 }
 
 /// A library that needs this one, or none.
 pub fn library_of(alloc: Global, need: Option<&str>) -> Result<Vec<u8>, Fault> {
-    made(alloc, &library_shape(alloc, need)?)
+    let mut shape = library_shape(alloc)?;
+    if let Some(need) = need {
+        shape.needs.push(Name::from_bytes(alloc, need.as_bytes())?)?;
+    }
+    made(alloc, &shape)
 }
 
-fn made(alloc: Global, shape: &Shape) -> Result<Vec<u8>, Fault> {
-    let object = make_object(alloc, shape)?;
-    Ok(Vec::from_slice(alloc, object.as_bytes())?)
+/// Whether each of these pieces stands at its place.
+pub fn has_pieces(alloc: Global, bytes: &[u8], pieces: &[Value]) -> Result<bool, Fault> {
+    for piece in pieces {
+        if !has_piece(alloc, bytes, piece)? {
+            return Ok(false);
+        }
+    }
+    Ok(true)
 }
 
 /// The bytes that hexadecimal digits say.
@@ -69,12 +69,16 @@ pub fn decoded(alloc: Global, digits: &str) -> Result<Vec<u8>, Fault> {
     }
 }
 
+fn made(alloc: Global, shape: &Shape) -> Result<Vec<u8>, Fault> {
+    let object = make_object(alloc, shape)?;
+    Ok(Vec::from_slice(alloc, object.as_bytes())?)
+}
+
 /// The bytes before they are cut and changed.
-fn whole(alloc: Global, fields: &Bytes) -> Result<Vec<u8>, Fault> {
-    match (&fields.hex, &fields.shape) {
-        (Some(digits), None) => decoded(alloc, digits.as_str()),
-        (None, Some(fields)) => object_of(alloc, fields),
-        _ => Err(Fault::Field("shape")),
+fn whole(alloc: Global, row: &Row<'_>) -> Result<Vec<u8>, Fault> {
+    match row.text_if_any("hex")? {
+        Some(digits) => decoded(alloc, digits),
+        None => object_of(alloc, row.value("shape")?),
     }
 }
 
@@ -91,13 +95,27 @@ fn cut(bytes: &mut Vec<u8>, count: Option<u64>) -> Result<(), Fault> {
 }
 
 /// Puts other bytes at a place.
-fn change(alloc: Global, bytes: &mut [u8], piece: &Piece) -> Result<(), Fault> {
-    let digits = decoded(alloc, piece.hex.as_str())?;
+fn change(alloc: Global, bytes: &mut [u8], piece: &Value) -> Result<(), Fault> {
+    let (at, digits) = place_and_bytes(alloc, piece)?;
     for (i, byte) in digits.as_slice().iter().enumerate() {
-        match bytes.get_mut(i.wrapping_add(piece.at as usize)) {
+        match bytes.get_mut(i.wrapping_add(at)) {
             Some(place) => *place = *byte,
             None => return Err(Fault::Field("at")),
         }
     }
     Ok(())
+}
+
+fn has_piece(alloc: Global, bytes: &[u8], piece: &Value) -> Result<bool, Fault> {
+    let (at, digits) = place_and_bytes(alloc, piece)?;
+    match bytes.get(at..) {
+        Some(behind) => Ok(behind.starts_with(digits.as_slice())),
+        None => Ok(false),
+    }
+}
+
+fn place_and_bytes(alloc: Global, piece: &Value) -> Result<(usize, Vec<u8>), Fault> {
+    let row = Row::of(piece, &["at", "hex"])?;
+    let at = row.number("at")? as usize;
+    Ok((at, decoded(alloc, row.text("hex")?)?))
 }

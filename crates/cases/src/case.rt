@@ -1,59 +1,110 @@
 //! The document: worlds, cases, and cases of which each call fails in turn.
 
-use case_files::{Bytes, Piece};
-use serde::Deserialize;
+use case_files::{Fault, Row};
+use toml::{Table, Value};
 
-#[derive(Drop, Deserialize)]
-#[serde(deny_unknown_fields)]
-pub struct Document {
+/// What a document has.
+#[derive(Clone, Copy)]
+pub struct Document<'a> {
     /// Files that cases share.
-    pub world: Vec<World>,
-    pub case: Vec<Case>,
+    pub worlds: &'a [Value],
+    pub cases: &'a [Value],
     /// Cases that are run again and again, each time with another call that fails.
-    pub turns: Vec<Case>,
+    pub turns: &'a [Value],
 }
 
-#[derive(Drop, Deserialize)]
-#[serde(deny_unknown_fields)]
-pub struct World {
-    pub name: String,
-    pub files: Vec<File>,
+impl<'a> Document<'a> {
+    pub fn of(table: &'a Table) -> Result<Document<'a>, Fault> {
+        let row = Row::of_table(table, &["world", "case", "turns"])?;
+        Ok(Document {
+            worlds: row.list("world")?,
+            cases: row.list("case")?,
+            turns: row.list("turns")?,
+        })
+    }
 }
 
-#[derive(Drop, Deserialize)]
-#[serde(deny_unknown_fields)]
-pub struct Case {
-    pub name: String,
-    pub words: Vec<String>,
-    /// The name of the world whose files are there, but for those at the paths `absent`.
-    pub world: Option<String>,
-    #[serde(default)]
-    pub absent: Vec<String>,
-    #[serde(default)]
-    pub files: Vec<File>,
+/// The names of a case's fields.
+const FIELDS: [&str; 9] = [
+    "name", "words", "world", "absent", "files", "chain", "finished", "failing", "wants",
+];
+
+/// A call, what is there, and how it is to end.
+#[derive(Clone, Copy)]
+pub struct Case<'a> {
+    pub words: &'a [Value],
+    /// The files of its world, but for those at the paths `absent`.
+    pub shared: &'a [Value],
+    pub absent: &'a [Value],
+    pub files: &'a [Value],
     /// How many libraries there are in a chain, `/usr/local/lib/lib0.so` and on, of which each
     /// needs the next. Their numbers are their identities.
-    pub chain: Option<u32>,
+    pub chain: u64,
     /// The paths of the files that the folder holds at first.
-    #[serde(default)]
-    pub finished: Vec<String>,
-    #[serde(default)]
-    pub failing: Vec<Failing>,
-    pub wants: Wants,
+    pub finished: &'a [Value],
+    pub failing: &'a [Value],
+    pub wants: Wants<'a>,
 }
 
-/// A file of the tree.
-#[derive(Drop, Deserialize)]
-#[serde(deny_unknown_fields)]
-pub struct File {
-    pub path: String,
-    /// Where it is absent it is the path.
-    pub id: Option<String>,
-    pub bytes: Bytes,
+impl<'a> Case<'a> {
+    pub fn of(worlds: &'a [Value], value: &'a Value) -> Result<Case<'a>, Fault> {
+        let row = Row::of(value, FIELDS.as_slice())?;
+        Ok(Case {
+            words: row.list("words")?,
+            shared: files_of_world(worlds, row.text_if_any("world")?)?,
+            absent: row.list("absent")?,
+            files: row.list("files")?,
+            chain: row.number_if_any("chain")?.unwrap_or(0),
+            finished: row.list("finished")?,
+            failing: row.list("failing")?,
+            wants: Wants::of(row.value("wants")?)?,
+        })
+    }
 }
 
-#[derive(Clone, Copy, PartialEq, Eq, Debug, Deserialize)]
-#[serde(rename_all = "snake_case")]
+/// The name of a case.
+pub fn name_of(value: &Value) -> &str {
+    match value.get("name") {
+        Some(Value::String(name)) => name.as_str(),
+        _ => "a case without a name",
+    }
+}
+
+/// The files of the world of a name; none where no world is named.
+fn files_of_world<'a>(worlds: &'a [Value], name: Option<&str>) -> Result<&'a [Value], Fault> {
+    let Some(name) = name else {
+        return Ok(&[]);
+    };
+    for world in worlds {
+        let row = Row::of(world, &["name", "files"])?;
+        if row.text("name")? == name {
+            return row.list("files");
+        }
+    }
+    Err(Fault::Field("world"))
+}
+
+/// A file of the tree. Where it has no identity of its own it is the path.
+#[derive(Clone, Copy)]
+pub struct File<'a> {
+    pub path: &'a str,
+    pub id: &'a str,
+    pub bytes: &'a Value,
+}
+
+impl<'a> File<'a> {
+    pub fn of(value: &'a Value) -> Result<File<'a>, Fault> {
+        let row = Row::of(value, &["path", "id", "bytes"])?;
+        let path = row.text("path")?;
+        Ok(File {
+            path,
+            id: row.text_if_any("id")?.unwrap_or(path),
+            bytes: row.value("bytes")?,
+        })
+    }
+}
+
+#[derive(Clone, Copy, PartialEq, Eq, Debug)]
 pub enum Method {
     Probe,
     ReadAt,
@@ -64,39 +115,105 @@ pub enum Method {
     Put,
 }
 
+/// Every method, in the order in which a call may use them.
+pub const METHODS: [Method; 7] = [
+    Method::Probe,
+    Method::ReadAt,
+    Method::Root,
+    Method::Begin,
+    Method::Append,
+    Method::Finish,
+    Method::Put,
+];
+
+impl Method {
+    pub fn name(self) -> &'static str {
+        match self {
+            Method::Probe => "probe",
+            Method::ReadAt => "read_at",
+            Method::Root => "root",
+            Method::Begin => "begin",
+            Method::Append => "append",
+            Method::Finish => "finish",
+            Method::Put => "put",
+        }
+    }
+
+    fn of(name: &str) -> Result<Method, Fault> {
+        for method in METHODS {
+            if method.name() == name {
+                return Ok(method);
+            }
+        }
+        Err(Fault::Field("method"))
+    }
+}
+
 /// A call that is to fail, by its number among the calls of its method, from 1.
-#[derive(Drop, Deserialize)]
-#[serde(deny_unknown_fields)]
+#[derive(Clone, Copy)]
 pub struct Failing {
     pub method: Method,
     pub number: u64,
 }
 
+impl Failing {
+    pub fn of(value: &Value) -> Result<Failing, Fault> {
+        let row = Row::of(value, &["method", "number"])?;
+        Ok(Failing {
+            method: Method::of(row.text("method")?)?,
+            number: row.number("number")?,
+        })
+    }
+}
+
 /// How a case wants to end. Without `line` nothing is to be printed.
-#[derive(Drop, Deserialize)]
-#[serde(deny_unknown_fields)]
-pub struct Wants {
-    pub status: String,
-    #[serde(default)]
-    pub line: String,
+#[derive(Clone, Copy)]
+pub struct Wants<'a> {
+    pub status: &'a str,
+    pub line: &'a str,
+    /// The path of the one root that is to be opened, if any.
+    pub root: Option<&'a str>,
     /// All files of the folder, in order.
-    #[serde(default)]
-    pub finished: Vec<WantedFile>,
+    pub finished: &'a [Value],
+}
+
+impl<'a> Wants<'a> {
+    fn of(value: &'a Value) -> Result<Wants<'a>, Fault> {
+        let row = Row::of(value, &["status", "line", "root", "finished"])?;
+        Ok(Wants {
+            status: row.text("status")?,
+            line: row.text_if_any("line")?.unwrap_or(""),
+            root: row.text_if_any("root")?,
+            finished: row.list("finished")?,
+        })
+    }
 }
 
 /// A finished file: its path, mark and length, and what is to be said of its bytes.
-#[derive(Drop, Deserialize)]
-#[serde(deny_unknown_fields)]
-pub struct WantedFile {
-    pub path: String,
-    #[serde(default)]
+#[derive(Clone, Copy)]
+pub struct WantedFile<'a> {
+    pub path: &'a str,
     pub executable: bool,
     pub length: u64,
     /// All its bytes.
-    pub hex: Option<String>,
+    pub hex: Option<&'a str>,
     /// The path of a file of the tree that has the same bytes.
-    pub bytes_of: Option<String>,
+    pub bytes_of: Option<&'a str>,
     /// Some of its bytes.
-    #[serde(default)]
-    pub pieces: Vec<Piece>,
+    pub pieces: &'a [Value],
+}
+
+impl<'a> WantedFile<'a> {
+    pub fn of(value: &'a Value) -> Result<WantedFile<'a>, Fault> {
+        let names = ["path", "executable", "length", "hex", "bytes_of", "pieces"];
+        let row = Row::of(value, names.as_slice())?;
+        Ok(WantedFile {
+            path: row.text("path")?,
+            executable: row.flag("executable")?,
+            length: row.number("length")?,
+            hex: row.text_if_any("hex")?,
+            bytes_of: row.text_if_any("bytes_of")?,
+            pieces: row.list("pieces")?,
+        })
+    }
 }

@@ -8,37 +8,44 @@ mod outside;
 mod turns;
 mod wants;
 
-use case::{Case, Document, World};
+use case::{Case, Document, METHODS, name_of};
 use case_files::Fault;
 use ports::MemFile;
 use std::alloc::Global;
 use std::io;
-use turns::{METHODS, Turns, ending_of, method_name, turns_of};
+use toml::{Table, Value};
+use turns::{Turns, ending_of, turns_of};
 use wants::{Ending, is_as_wanted};
 
 fn main(rt: HostRuntime) -> io::Result<()> {
     let text = io::read_to_string(rt.alloc(), rt.reader())?;
-    match toml::from_str::<Document>(rt.alloc(), text.as_str()) {
-        Ok(document) => run_document(&rt, &document),
-        Err(error) => println!(rt; "no document of cases: {error}"),
+    match toml::table_from_str(rt.alloc(), text.as_str()) {
+        Ok(table) => run_table(&rt, &table),
+        Err(error) => println!(rt; "no document: {error}"),
     }
 }
 
-fn run_document(rt: &HostRuntime, document: &Document) -> io::Result<()> {
-    let worlds = document.world.as_slice();
-    for case in document.case.as_slice() {
-        run_case(rt, worlds, case)?;
+fn run_table(rt: &HostRuntime, table: &Table) -> io::Result<()> {
+    match Document::of(table) {
+        Ok(document) => run_document(rt, &document),
+        Err(fault) => println!(rt; "no document of cases: {fault}"),
     }
-    println!(rt; "{} cases", document.case.len())?;
-    for case in document.turns.as_slice() {
-        run_turns(rt, worlds, case)?;
+}
+
+fn run_document(rt: &HostRuntime, document: &Document<'_>) -> io::Result<()> {
+    for case in document.cases {
+        run_case(rt, document.worlds, case)?;
+    }
+    println!(rt; "{} cases", document.cases.len())?;
+    for case in document.turns {
+        run_turns(rt, document.worlds, case)?;
     }
     Ok(())
 }
 
 /// Runs a case, and prints it where it differs.
-fn run_case(rt: &HostRuntime, worlds: &[World], case: &Case) -> io::Result<()> {
-    let name = case.name.as_str();
+fn run_case(rt: &HostRuntime, worlds: &[Value], case: &Value) -> io::Result<()> {
+    let name = name_of(case);
     match differing(rt.alloc(), worlds, case) {
         Ok(None) => Ok(()),
         Ok(Some(ending)) => print_ending(rt, name, &ending),
@@ -47,9 +54,10 @@ fn run_case(rt: &HostRuntime, worlds: &[World], case: &Case) -> io::Result<()> {
 }
 
 /// How a case ends that wants to end otherwise.
-fn differing(alloc: Global, worlds: &[World], case: &Case) -> Result<Option<Ending>, Fault> {
-    let ending = ending_of(alloc, worlds, case, None)?;
-    if is_as_wanted(alloc, worlds, case, &ending)? {
+fn differing(alloc: Global, worlds: &[Value], case: &Value) -> Result<Option<Ending>, Fault> {
+    let case = Case::of(worlds, case)?;
+    let ending = ending_of(alloc, &case, None)?;
+    if is_as_wanted(alloc, &case, &ending)? {
         Ok(None)
     } else {
         Ok(Some(ending))
@@ -72,12 +80,21 @@ fn print_files(rt: &HostRuntime, files: &[MemFile]) -> io::Result<()> {
 }
 
 /// Lets each call of a case fail in turn, and prints how many calls of each method there were.
-fn run_turns(rt: &HostRuntime, worlds: &[World], case: &Case) -> io::Result<()> {
-    let name = case.name.as_str();
-    print!(rt; "{name}:")?;
+fn run_turns(rt: &HostRuntime, worlds: &[Value], case: &Value) -> io::Result<()> {
+    let name = name_of(case);
+    match Case::of(worlds, case) {
+        Ok(case) => {
+            print!(rt; "{name}:")?;
+            print_turns(rt, &case)
+        }
+        Err(fault) => println!(rt; "{name}: {fault}"),
+    }
+}
+
+fn print_turns(rt: &HostRuntime, case: &Case<'_>) -> io::Result<()> {
     for method in METHODS {
-        let method_name = method_name(method);
-        match turns_of(rt.alloc(), worlds, case, method) {
+        let method_name = method.name();
+        match turns_of(rt.alloc(), case, method) {
             Ok(Turns::Failed(count)) => print!(rt; " {method_name} {count}")?,
             Ok(Turns::Otherwise(number)) => print!(rt; " {method_name} not as it may at {number}")?,
             Err(fault) => print!(rt; " {method_name} {fault}")?,

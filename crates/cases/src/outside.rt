@@ -1,12 +1,13 @@
 //! The tree, the folder and the sink of a case, and the call.
 
-use crate::case::{Case, Failing, File, Method, World};
+use crate::case::{Case, Failing, File, Method};
 use appdir_cli::{Status, appdir_main};
-use case_files::{Fault, bytes_of, library_of};
+use case_files::{Fault, bytes_of, library_of, text_of};
 use load_model::{Name, NoMemory};
 use path_text::{Abs, Rel};
-use ports::{Failed, MemOut, MemSink, MemTree, OutDir};
+use ports::{AddFault, Failed, MemOut, MemSink, MemTree, OutDir};
 use std::alloc::Global;
+use toml::Value;
 
 #[derive(Drop)]
 pub struct Outside {
@@ -16,21 +17,21 @@ pub struct Outside {
 }
 
 /// The tree, the folder and the sink of a case.
-pub fn outside_of(alloc: Global, worlds: &[World], case: &Case) -> Result<Outside, Fault> {
+pub fn outside_of(alloc: Global, case: &Case<'_>) -> Result<Outside, Fault> {
     let mut outside = Outside {
-        tree: tree_of(alloc, worlds, case)?,
-        out: folder_of(alloc, case.finished.as_slice())?,
+        tree: tree_of(alloc, case)?,
+        out: folder_of(alloc, case.finished)?,
         sink: MemSink::new(alloc)?,
     };
-    for failing in case.failing.as_slice() {
-        let_fail(&mut outside, case, failing)?;
+    for failing in case.failing {
+        let_fail(&mut outside, case, &Failing::of(failing)?)?;
     }
     Ok(outside)
 }
 
 /// Puts a call on the list of those that are to fail. What the folder holds at first took a call of
 /// each of its methods for each file.
-pub fn let_fail(outside: &mut Outside, case: &Case, failing: &Failing) -> Result<(), NoMemory> {
+pub fn let_fail(outside: &mut Outside, case: &Case<'_>, failing: &Failing) -> Result<(), NoMemory> {
     let number = failing.number;
     let behind = number.saturating_add(case.finished.len() as u64);
     match failing.method {
@@ -45,74 +46,74 @@ pub fn let_fail(outside: &mut Outside, case: &Case, failing: &Failing) -> Result
 }
 
 /// Calls the program.
-pub fn call(alloc: Global, words: &[String], outside: &mut Outside) -> Status {
+pub fn call(alloc: Global, words: &[Value], outside: &mut Outside) -> Result<Status, Fault> {
+    let words = texts_of(alloc, words)?;
     let Outside { tree, out, sink } = outside;
-    appdir_main(alloc, words, tree, out, sink)
+    Ok(appdir_main(alloc, words.as_slice(), tree, out, sink))
+}
+
+fn texts_of(alloc: Global, values: &[Value]) -> Result<Vec<String>, Fault> {
+    let mut texts = Vec::new(alloc);
+    for value in values {
+        texts.push(text_of(value)?.to_string(alloc)?)?;
+    }
+    Ok(texts)
 }
 
 /// The file of the tree at a path.
-pub fn source<'a>(worlds: &'a [World], case: &'a Case, path: &str) -> Result<&'a File, Fault> {
-    match file_at(case.files.as_slice(), path) {
+pub fn source<'a>(case: &Case<'a>, path: &str) -> Result<File<'a>, Fault> {
+    match file_at(case.files, path)? {
         Some(file) => Ok(file),
-        None => match file_at(shared_files(worlds, case)?, path) {
+        None => match file_at(case.shared, path)? {
             Some(file) => Ok(file),
             None => Err(Fault::Field("bytes_of")),
         },
     }
 }
 
-fn file_at<'a>(files: &'a [File], path: &str) -> Option<&'a File> {
+fn file_at<'a>(files: &'a [Value], path: &str) -> Result<Option<File<'a>>, Fault> {
     for file in files {
-        if file.path.as_str() == path {
-            return Some(file);
+        let file = File::of(file)?;
+        if file.path == path {
+            return Ok(Some(file));
         }
     }
-    None
+    Ok(None)
 }
 
-/// The files of the world that a case names.
-fn shared_files<'a>(worlds: &'a [World], case: &Case) -> Result<&'a [File], Fault> {
-    let Some(name) = &case.world else {
-        return Ok(&[]);
-    };
-    for world in worlds {
-        if world.name.as_str() == name.as_str() {
-            return Ok(world.files.as_slice());
-        }
-    }
-    Err(Fault::Field("world"))
-}
-
-fn tree_of(alloc: Global, worlds: &[World], case: &Case) -> Result<MemTree, Fault> {
+fn tree_of(alloc: Global, case: &Case<'_>) -> Result<MemTree, Fault> {
     let mut tree = MemTree::new(alloc)?;
-    for file in shared_files(worlds, case)? {
-        if !is_absent(case, file.path.as_str()) {
-            add_file(alloc, &mut tree, file)?;
-        }
-    }
-    for file in case.files.as_slice() {
-        add_file(alloc, &mut tree, file)?;
-    }
-    add_chain(alloc, &mut tree, case.chain.unwrap_or(0))?;
+    add_files(alloc, &mut tree, case.shared, case.absent)?;
+    add_files(alloc, &mut tree, case.files, &[])?;
+    add_chain(alloc, &mut tree, case.chain)?;
     Ok(tree)
 }
 
-fn is_absent(case: &Case, path: &str) -> bool {
-    for absent in case.absent.as_slice() {
-        if absent.as_str() == path {
-            return true;
+/// Adds files, but for those at the paths `absent`.
+fn add_files(
+    alloc: Global,
+    tree: &mut MemTree,
+    files: &[Value],
+    absent: &[Value],
+) -> Result<(), Fault> {
+    for file in files {
+        let file = File::of(file)?;
+        if !are_texts_with(absent, file.path)? {
+            let bytes = bytes_of(alloc, file.bytes)?;
+            add(alloc, tree, file.path, file.id, bytes.as_slice())?;
         }
     }
-    false
+    Ok(())
 }
 
-fn add_file(alloc: Global, tree: &mut MemTree, file: &File) -> Result<(), Fault> {
-    let bytes = bytes_of(alloc, &file.bytes)?;
-    let id = match &file.id {
-        Some(id) => id.as_str(),
-        None => file.path.as_str(),
-    };
-    add(alloc, tree, file.path.as_str(), id, bytes.as_slice())
+/// Whether a text is one of these.
+fn are_texts_with(texts: &[Value], wanted: &str) -> Result<bool, Fault> {
+    for text in texts {
+        if text_of(text)? == wanted {
+            return Ok(true);
+        }
+    }
+    Ok(false)
 }
 
 fn add(alloc: Global, tree: &mut MemTree, path: &str, id: &str, bytes: &[u8]) -> Result<(), Fault> {
@@ -122,12 +123,13 @@ fn add(alloc: Global, tree: &mut MemTree, path: &str, id: &str, bytes: &[u8]) ->
     };
     match tree.add(&path, &id, bytes) {
         Ok(()) => Ok(()),
-        Err(_) => Err(Fault::Field("path and identity")),
+        Err(AddFault::Taken) => Err(Fault::Field("path and identity")),
+        Err(AddFault::NoMemory) => Err(Fault::NoMemory),
     }
 }
 
 /// Adds libraries of which each needs the next, in the first of the listed directories.
-fn add_chain(alloc: Global, tree: &mut MemTree, count: u32) -> Result<(), Fault> {
+fn add_chain(alloc: Global, tree: &mut MemTree, count: u64) -> Result<(), Fault> {
     for number in 0..count {
         let path = format!(in alloc; "/usr/local/lib/lib{number}.so")?;
         let id = format!(in alloc; "{number}")?;
@@ -138,7 +140,7 @@ fn add_chain(alloc: Global, tree: &mut MemTree, count: u32) -> Result<(), Fault>
 }
 
 /// The library of this number in a chain of so many.
-fn link_of_chain(alloc: Global, number: u32, count: u32) -> Result<Vec<u8>, Fault> {
+fn link_of_chain(alloc: Global, number: u64, count: u64) -> Result<Vec<u8>, Fault> {
     let next = number.saturating_add(1);
     if next < count {
         library_of(alloc, Some(format!(in alloc; "lib{next}.so")?.as_str()))
@@ -147,10 +149,10 @@ fn link_of_chain(alloc: Global, number: u32, count: u32) -> Result<Vec<u8>, Faul
     }
 }
 
-fn folder_of(alloc: Global, paths: &[String]) -> Result<MemOut, Fault> {
+fn folder_of(alloc: Global, paths: &[Value]) -> Result<MemOut, Fault> {
     let mut out = MemOut::new(alloc)?;
     for path in paths {
-        finish_one(alloc, &mut out, path.as_str())?;
+        finish_one(alloc, &mut out, text_of(path)?)?;
     }
     Ok(out)
 }

@@ -1,9 +1,10 @@
 //! How a case ended, and how it wants to end.
 
-use crate::case::{Case, WantedFile, World};
+use crate::case::{Case, WantedFile};
 use crate::outside::{Outside, source};
 use appdir_cli::{Status, status_name};
-use case_files::{Fault, Piece, bytes_of, decoded};
+use case_files::{Fault, bytes_of, decoded, has_pieces};
+use load_model::Name;
 use ports::MemFile;
 use std::alloc::Global;
 
@@ -28,104 +29,83 @@ impl Ending {
     pub fn finished(&self) -> &[MemFile] {
         self.outside.out.finished()
     }
+
+    /// The roots that the call opened: those behind the roots of the files that were there.
+    pub fn roots(&self, case: &Case<'_>) -> &[Name] {
+        match self.outside.out.roots().get(case.finished.len()..) {
+            Some(roots) => roots,
+            None => &[],
+        }
+    }
 }
 
 /// Whether a case ended as it wants to.
-pub fn is_as_wanted(
-    alloc: Global,
-    worlds: &[World],
-    case: &Case,
-    ending: &Ending,
-) -> Result<bool, Fault> {
-    if case.wants.status.as_str() != ending.status_name()
-        || case.wants.line.as_str() != ending.line()
-        || ending.finished().len() != case.wants.finished.len()
-    {
-        return Ok(false);
+pub fn is_as_wanted(alloc: Global, case: &Case<'_>, ending: &Ending) -> Result<bool, Fault> {
+    let wants = &case.wants;
+    let are_texts = wants.status == ending.status_name() && wants.line == ending.line();
+    let is_all = ending.finished().len() == wants.finished.len()
+        && is_root(ending.roots(case), wants.root);
+    Ok(are_texts && is_all && are_first_wanted(alloc, case, ending.finished())?)
+}
+
+/// Whether the wanted root alone was opened, or none where none is wanted.
+pub fn is_root(opened: &[Name], wanted: Option<&str>) -> bool {
+    match (opened, wanted) {
+        ([], None) => true,
+        ([root], Some(path)) => root.as_bytes() == path.as_bytes(),
+        _ => false,
     }
-    are_first_wanted(alloc, worlds, case, ending.finished())
 }
 
 /// Whether these files are the first of those that a case wants.
-pub fn are_first_wanted(
-    alloc: Global,
-    worlds: &[World],
-    case: &Case,
-    files: &[MemFile],
-) -> Result<bool, Fault> {
+pub fn are_first_wanted(alloc: Global, case: &Case<'_>, files: &[MemFile]) -> Result<bool, Fault> {
     if files.len() > case.wants.finished.len() {
         return Ok(false);
     }
-    for (file, wanted) in files.iter().zip(case.wants.finished.as_slice()) {
-        let source = source_bytes(alloc, worlds, case, wanted)?;
-        if !is_wanted(alloc, file, wanted, &source)? {
+    for (file, wanted) in files.iter().zip(case.wants.finished) {
+        if !is_wanted(alloc, case, file, &WantedFile::of(wanted)?)? {
             return Ok(false);
         }
     }
     Ok(true)
-}
-
-/// The bytes of the file of the tree that a wanted file is to equal.
-fn source_bytes(
-    alloc: Global,
-    worlds: &[World],
-    case: &Case,
-    wanted: &WantedFile,
-) -> Result<Option<Vec<u8>>, Fault> {
-    match &wanted.bytes_of {
-        Some(path) => {
-            let file = source(worlds, case, path.as_str())?;
-            Ok(Some(bytes_of(alloc, &file.bytes)?))
-        }
-        None => Ok(None),
-    }
 }
 
 /// Whether this file is the wanted one.
 fn is_wanted(
     alloc: Global,
+    case: &Case<'_>,
     file: &MemFile,
-    wanted: &WantedFile,
-    source: &Option<Vec<u8>>,
+    wanted: &WantedFile<'_>,
 ) -> Result<bool, Fault> {
     let bytes = file.bytes.as_bytes();
-    let is_same = file.path.as_str() == wanted.path.as_str()
+    let is_same = file.path.as_str() == wanted.path
         && file.executable == wanted.executable
-        && bytes.len() as u64 == wanted.length
-        && are_bytes(bytes, source);
-    Ok(is_same && is_hex(alloc, bytes, wanted)? && has_pieces(alloc, bytes, wanted)?)
+        && bytes.len() as u64 == wanted.length;
+    Ok(
+        is_same
+            && is_hex(alloc, bytes, wanted.hex)?
+            && is_copy(alloc, case, bytes, wanted.bytes_of)?
+            && has_pieces(alloc, bytes, wanted.pieces)?,
+    )
 }
 
-/// Whether bytes are those of a source, if there is one.
-fn are_bytes(bytes: &[u8], source: &Option<Vec<u8>>) -> bool {
-    match source {
-        Some(source) => bytes == source.as_slice(),
-        None => true,
-    }
-}
-
-/// Whether bytes are those that the digits of a wanted file say, if it has any.
-fn is_hex(alloc: Global, bytes: &[u8], wanted: &WantedFile) -> Result<bool, Fault> {
-    match &wanted.hex {
-        Some(digits) => Ok(bytes == decoded(alloc, digits.as_str())?.as_slice()),
+/// Whether bytes are those that digits say, if there are any.
+fn is_hex(alloc: Global, bytes: &[u8], digits: Option<&str>) -> Result<bool, Fault> {
+    match digits {
+        Some(digits) => Ok(bytes == decoded(alloc, digits)?.as_slice()),
         None => Ok(true),
     }
 }
 
-/// Whether the pieces of a wanted file stand at their places.
-fn has_pieces(alloc: Global, bytes: &[u8], wanted: &WantedFile) -> Result<bool, Fault> {
-    for piece in wanted.pieces.as_slice() {
-        if !has_piece(alloc, bytes, piece)? {
-            return Ok(false);
-        }
-    }
-    Ok(true)
-}
-
-fn has_piece(alloc: Global, bytes: &[u8], piece: &Piece) -> Result<bool, Fault> {
-    let digits = decoded(alloc, piece.hex.as_str())?;
-    match bytes.get(piece.at as usize..) {
-        Some(behind) => Ok(behind.starts_with(digits.as_slice())),
-        None => Ok(false),
+/// Whether bytes are those of the file of the tree at a path, if there is one.
+fn is_copy(
+    alloc: Global,
+    case: &Case<'_>,
+    bytes: &[u8],
+    path: Option<&str>,
+) -> Result<bool, Fault> {
+    match path {
+        Some(path) => Ok(bytes == bytes_of(alloc, source(case, path)?.bytes)?.as_slice()),
+        None => Ok(true),
     }
 }

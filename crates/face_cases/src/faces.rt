@@ -1,7 +1,8 @@
 //! What a loader sees in files, as lines.
 
+use crate::document::Wanted;
 use byte_view::{Flaw, Told, flaw_name, numbers_told};
-use case_files::Fault;
+use case_files::{Fault, text_of};
 use elf_face::{flaw_of, read_face};
 use load_model::{Ask, Face, Name, Sym, Ver, escape};
 use std::alloc::Global;
@@ -18,16 +19,12 @@ pub fn told_text(alloc: Global, bytes: &[u8]) -> Result<Vec<u8>, Fault> {
 }
 
 /// The lines that are wanted, or the line of the flaw.
-pub fn wanted_text(
-    alloc: Global,
-    lines: &[String],
-    flaw: &Option<String>,
-) -> Result<Vec<u8>, Fault> {
+pub fn wanted_text(alloc: Global, wanted: &Wanted<'_>) -> Result<Vec<u8>, Fault> {
     let mut text = Vec::new(alloc);
-    for line in lines {
-        push_line(&mut text, line.as_bytes())?;
+    for line in wanted.lines {
+        push_line(&mut text, text_of(line)?.as_bytes())?;
     }
-    if let Some(flaw) = flaw {
+    if let Some(flaw) = wanted.flaw {
         push_line(&mut text, flaw.as_bytes())?;
     }
     Ok(text)

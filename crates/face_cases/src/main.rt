@@ -7,75 +7,78 @@ mod faces;
 mod objects;
 
 use case_files::{Fault, altered, bytes_of, object_of};
-use document::{ChangedRow, Document, FaceRow, ObjectRow};
+use document::{ChangedRow, Document, FaceRow, ObjectRow, Wanted, name_of};
 use faces::{told_text, wanted_text};
 use objects::is_as_wanted;
 use std::alloc::Global;
 use std::io;
+use toml::{Table, Value};
 
 fn main(rt: HostRuntime) -> io::Result<()> {
     let text = io::read_to_string(rt.alloc(), rt.reader())?;
-    match toml::from_str::<Document>(rt.alloc(), text.as_str()) {
-        Ok(document) => run_document(&rt, &document),
-        Err(error) => println!(rt; "no document of faces and objects: {error}"),
+    match toml::table_from_str(rt.alloc(), text.as_str()) {
+        Ok(table) => run_table(&rt, &table),
+        Err(error) => println!(rt; "no document: {error}"),
     }
 }
 
-fn run_document(rt: &HostRuntime, document: &Document) -> io::Result<()> {
-    run_faces(rt, document.face.as_slice())?;
-    run_objects(rt, document.object.as_slice())
+fn run_table(rt: &HostRuntime, table: &Table) -> io::Result<()> {
+    match Document::of(table) {
+        Ok(document) => {
+            run_faces(rt, document.faces)?;
+            run_objects(rt, document.objects)
+        }
+        Err(fault) => println!(rt; "no document of faces and objects: {fault}"),
+    }
 }
 
-fn run_faces(rt: &HostRuntime, rows: &[FaceRow]) -> io::Result<()> {
+fn run_faces(rt: &HostRuntime, rows: &[Value]) -> io::Result<()> {
     let mut changed: usize = 0;
     for row in rows {
-        run_face(rt, row)?;
-        changed = changed.saturating_add(row.changed.len());
+        changed = changed.saturating_add(run_face(rt, row)?);
     }
     println!(rt; "{} faces", rows.len())?;
     println!(rt; "{changed} changed files")
 }
 
-fn run_objects(rt: &HostRuntime, rows: &[ObjectRow]) -> io::Result<()> {
+fn run_objects(rt: &HostRuntime, rows: &[Value]) -> io::Result<()> {
     for row in rows {
-        run_object(rt, row)?;
+        print_differing(rt, name_of(row), differing_object(rt.alloc(), row))?;
     }
     println!(rt; "{} objects", rows.len())
 }
 
-/// Reads a file and all that is changed of it.
-fn run_face(rt: &HostRuntime, row: &FaceRow) -> io::Result<()> {
-    let name = row.name.as_str();
-    let bytes = match bytes_of(rt.alloc(), &row.file) {
-        Ok(bytes) => bytes,
-        Err(fault) => return println!(rt; "{name}: {fault}"),
+/// Reads a file and all that is changed of it, and says how many these are.
+fn run_face(rt: &HostRuntime, value: &Value) -> io::Result<usize> {
+    let told = match FaceRow::of(value) {
+        Ok(row) => return run_row(rt, name_of(value), &row),
+        Err(fault) => Err(fault),
     };
-    let told = differing(
-        rt.alloc(),
-        bytes.as_slice(),
-        row.wants.as_slice(),
-        &row.flaw,
-    );
-    print_told(rt, name, told)?;
-    for changed in row.changed.as_slice() {
-        print_told(
-            rt,
-            changed.name.as_str(),
-            differing_change(rt.alloc(), bytes.as_slice(), changed),
-        )?;
+    print_differing(rt, name_of(value), told)?;
+    Ok(0)
+}
+
+fn run_row(rt: &HostRuntime, name: &str, row: &FaceRow<'_>) -> io::Result<usize> {
+    let bytes = match bytes_of(rt.alloc(), row.file) {
+        Ok(bytes) => bytes,
+        Err(fault) => {
+            print_differing(rt, name, Err(fault))?;
+            return Ok(0);
+        }
+    };
+    let told = differing(rt.alloc(), bytes.as_slice(), &row.wanted);
+    print_differing(rt, name, told)?;
+    for changed in row.changed {
+        let told = differing_change(rt.alloc(), bytes.as_slice(), changed);
+        print_differing(rt, name_of(changed), told)?;
     }
-    Ok(())
+    Ok(row.changed.len())
 }
 
 /// What is told of a file of which something else is wanted.
-fn differing(
-    alloc: Global,
-    bytes: &[u8],
-    lines: &[String],
-    flaw: &Option<String>,
-) -> Result<Option<Vec<u8>>, Fault> {
+fn differing(alloc: Global, bytes: &[u8], wanted: &Wanted<'_>) -> Result<Option<Vec<u8>>, Fault> {
     let text = told_text(alloc, bytes)?;
-    if text.as_slice() == wanted_text(alloc, lines, flaw)?.as_slice() {
+    if text.as_slice() == wanted_text(alloc, wanted)?.as_slice() {
         Ok(None)
     } else {
         Ok(Some(text))
@@ -83,18 +86,27 @@ fn differing(
 }
 
 /// The same of a file that is changed.
-fn differing_change(
-    alloc: Global,
-    bytes: &[u8],
-    row: &ChangedRow,
-) -> Result<Option<Vec<u8>>, Fault> {
+fn differing_change(alloc: Global, bytes: &[u8], value: &Value) -> Result<Option<Vec<u8>>, Fault> {
+    let row = ChangedRow::of(value)?;
     let bytes = Vec::from_slice(alloc, bytes)?;
-    let bytes = altered(alloc, bytes, row.cut, row.changes.as_slice())?;
-    differing(alloc, bytes.as_slice(), row.wants.as_slice(), &row.flaw)
+    let bytes = altered(alloc, bytes, row.cut, row.changes)?;
+    differing(alloc, bytes.as_slice(), &row.wanted)
+}
+
+/// The digits of an object of which other bytes are wanted.
+fn differing_object(alloc: Global, value: &Value) -> Result<Option<Vec<u8>>, Fault> {
+    let row = ObjectRow::of(value)?;
+    let object = object_of(alloc, row.shape)?;
+    if is_as_wanted(alloc, object.as_slice(), &row)? {
+        Ok(None)
+    } else {
+        let digits = hex::encode(alloc, object.as_slice())?;
+        Ok(Some(Vec::from_slice(alloc, digits.as_bytes())?))
+    }
 }
 
 /// Prints what differs.
-fn print_told(
+fn print_differing(
     rt: &HostRuntime,
     name: &str,
     told: Result<Option<Vec<u8>>, Fault>,
@@ -106,25 +118,5 @@ fn print_told(
             println!(rt; "{name}:\n{}", text.trim_end())
         }
         Err(fault) => println!(rt; "{name}: {fault}"),
-    }
-}
-
-/// Makes an object, and prints it where it differs.
-fn run_object(rt: &HostRuntime, row: &ObjectRow) -> io::Result<()> {
-    let name = row.name.as_str();
-    match differing_object(rt.alloc(), row) {
-        Ok(None) => Ok(()),
-        Ok(Some(digits)) => println!(rt; "{name}:\n{digits}"),
-        Err(fault) => println!(rt; "{name}: {fault}"),
-    }
-}
-
-/// The digits of an object of which other bytes are wanted.
-fn differing_object(alloc: Global, row: &ObjectRow) -> Result<Option<String>, Fault> {
-    let object = object_of(alloc, &row.shape)?;
-    if is_as_wanted(alloc, object.as_slice(), row)? {
-        Ok(None)
-    } else {
-        Ok(Some(hex::encode(alloc, object.as_slice())?))
     }
 }

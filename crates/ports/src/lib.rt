@@ -19,5 +19,3 @@ pub use mem_tree::{AddFault, MemTree};
 pub use sinks::Sink;
 pub use trees::{Found, ProbeStop, Tree};
 
-#[cfg(test)]
-mod tests;
