@@ -1,5 +1,5 @@
 -- A call without faults has the status of its outcome, or it lacked memory.
-use Rattle.std.proofs.Common.{ℕ, List, [], ◌∷◌, ◌≡◌, ◌≢◌, ◌⊎◌, inl, inr, refl, ap, sym, ◌∙◌, Option, Some, None, Result, Ok, Err}
+use Rattle.std.proofs.Common.{ℕ, List, [], ◌∷◌, ◌≡◌, ◌≢◌, inl, inr, refl, ap, sym, Option, Some, None, Result, Ok, Err}
 use Rattle.load_model.specs.World.{World}
 use Rattle.ports.specs.declared.folders.MemFile.{MemFile}
 use Rattle.ports.specs.Folder.{Folder}
@@ -7,7 +7,7 @@ use Rattle.ports.specs.View.{View}
 use Rattle.appdir_cli.proofs.PackingLemmas.{packed_or_refused}
 use Rattle.appdir_cli.specs.ComesTo.{ComesTo}
 use Rattle.appdir_cli.specs.Delivery.{IsFull}
-use Rattle.appdir_cli.specs.Endings.{Ends, EndsFor, EndsUnshaped, Expects, IsComplete, IsDone, IsFaultless, IsGiven, IsRefused, Outside, packing_status}
+use Rattle.appdir_cli.specs.Endings.{Ends, EndsFor, EndsUnshaped, Expects, IsComplete, IsGiven, IsRefused, Outside, packing_status}
 use Rattle.appdir_cli.specs.declared.answer.Answer.{Answer}
 use Rattle.appdir_cli.specs.declared.answer.Answer.TheVariants.{Says, Packs}
 use Rattle.appdir_cli.specs.declared.answer.Whole.{Whole}

@@ -1,12 +1,12 @@
 -- What writing and saying come to, from what their steps say.
-use Rattle.std.proofs.Common.{ℕ, List, [], ◌∷◌, ◌++◌, ◌≡◌, ◌≢◌, ◌<◌, ◌≤◌, ◌+◌, ◌-◌, ◌^◌, inl, inr, min, length, take, refl, ap, sym, ◌∙◌, subst, Option, Some, None, option_map, arith}
+use Rattle.std.proofs.Common.{ℕ, List, [], ◌∷◌, ◌++◌, ◌≡◌, ◌≢◌, ◌<◌, ◌≤◌, ◌+◌, inl, inr, length, take, refl, ap, sym, ◌∙◌, subst, Option, Some, None, option_map, arith}
 use Rattle.ports.specs.Folder.{root_state}
 use Rattle.answers.specs.Faults.{Rose}
 use Rattle.ports.specs.declared.folders.MemFile.{MemFile}
 use Rattle.ports.specs.declared.folders.RootState.TheVariants.{Empty, NotEmpty as Filled}
 use Rattle.ports.specs.Folder.{Added, Folder, with_files, with_root}
 use Rattle.ports.specs.View.{Became, Changed, View}
-use Rattle.appdir_cli.specs.Delivery.{IsDelivered, IsEmptyFolder, IsFull, IsPart, IsWhole}
+use Rattle.appdir_cli.specs.Delivery.{IsDelivered, IsFull, IsPart, IsWhole}
 use Rattle.appdir_cli.specs.Lines.{refusal_line}
 use Rattle.appdir_cli.specs.Saying.{IsSaid}
 use Rattle.appdir_cli.specs.declared.answer.Whole.{Whole}

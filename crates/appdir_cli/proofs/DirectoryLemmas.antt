@@ -1,6 +1,6 @@
 -- A path of plain letters is read as it is.
 use Rattle.std.proofs.Common.{◌≡◌, ◌≢◌, ◌∙◌, ap, ℕ, ◌<◌, List, [], ◌∷◌, Bool, true, ◌&&◌, arith, nat_lt, Ok}
-use Rattle.std.specs.Prelude.{All, IsAscii, IsUtf8}
+use Rattle.std.specs.Prelude.{All, IsAscii}
 use Rattle.std.specs.List.{list_all}
 use Rattle.std.proofs.lemmas.Bool.{and_parts, ltb-true}
 use Rattle.std.proofs.lemmas.List.Elements.{All-cons, All-nil}

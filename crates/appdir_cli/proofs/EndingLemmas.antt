@@ -1,10 +1,10 @@
 -- How a call for a command ends, from how its files were delivered, or from its refusal.
-use Rattle.std.proofs.Common.{◌≡◌, inl, inr, refl, sym, subst, Result, Ok, Err}
+use Rattle.std.proofs.Common.{ℕ, List, ◌≡◌, inl, inr, refl, sym, subst, Result, Ok, Err}
 use Rattle.appdir_cli.specs.Delivery.{IsDelivered, IsFull, IsWhole}
-use Rattle.appdir_cli.specs.Endings.{EndsFor, IsDone, IsOutcome, IsRefused, Outside}
+use Rattle.appdir_cli.specs.Endings.{EndsFor, EndsUnshaped, IsDone, IsOutcome, IsRefused, Outside}
 use Rattle.ports.specs.View.{Stays, View}
-use Rattle.appdir_cli.specs.Lines.{refusal_line}
-use Rattle.appdir_cli.specs.Saying.{IsRefusal}
+use Rattle.appdir_cli.specs.Lines.{refusal_line, usage_text}
+use Rattle.appdir_cli.specs.Saying.{IsRefusal, IsSaid}
 use Rattle.appdir_cli.specs.Packing.{Packs as IsPackedBy}
 use Rattle.appdir_cli.specs.ComesTo.{ComesTo}
 use Rattle.appdir_cli.specs.Steps.{IsStepAnswer}
@@ -13,7 +13,7 @@ use Rattle.appdir_cli.specs.declared.answer.Answer.{Answer}
 use Rattle.appdir_cli.specs.declared.answer.Stop.{Stop}
 use Rattle.appdir_cli.specs.declared.words.Command.TheVariants.{Quick as AsksQuick}
 use Rattle.appdir_cli.specs.declared.words.Quick.{Quick}
-use Rattle.appdir_cli.specs.declared.answer.Answer.TheVariants.{Packs}
+use Rattle.appdir_cli.specs.declared.answer.Answer.TheVariants.{Packs, Says}
 use Rattle.appdir_cli.specs.declared.answer.Whole.{Whole}
 use Rattle.appdir_cli.specs.declared.words.Command.{Command}
 use Rattle.appdir_cli.specs.declared.refusal.Refusal.{Refusal}
@@ -55,6 +55,25 @@ module _ (command : Command) (before after : Outside) (refusal : Refusal) (outco
           | inr part ↦ subst P (sym part.0) (inr (refusal_line refusal, decided, part.1))
         ]
       ]
+
+module _ (command : Command) (before after : Outside) (text : List ℕ) (outcome : IsOutcome command before (Ok (Says text))) (untouched : Stays before.folder after.folder) where
+  pub said_ends : (line : List ℕ) (status : Status) → line ≡ text → IsSaid line Done before.sink after.sink status → EndsFor command before after status
+  said_ends line status is h =
+      let P : Status → Type 0 = λ s. EndsFor command before after s in
+      let done : IsDone command before after line = record { answer = Says text; outcome = outcome; line = is; given = untouched } in
+      elim h [
+        | inl took ↦ subst P (sym took.0) (line, done, took.1)
+        | inr part ↦ subst P (sym part.0) (inl (line, done, part.1))
+      ]
+
+-- how a call for no command ends
+pub unshaped_ends : (before after : Outside) (line : List ℕ) (status : Status) → Stays before.folder after.folder → line ≡ usage_text → IsSaid line Usage before.sink after.sink status → EndsUnshaped before after status
+unshaped_ends before after line status untouched is h =
+    let P : Status → Type 0 = λ s. EndsUnshaped before after s in
+    elim h [
+      | inl took ↦ subst P (sym took.0) (line, (is, untouched), took.1)
+      | inr part ↦ subst P (sym part.0) (line, (is, untouched), part.1)
+    ]
 
 abbrev pub quick_of : Command → Quick
 quick_of (AsksQuick quick) = quick

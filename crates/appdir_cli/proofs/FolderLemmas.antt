@@ -1,5 +1,5 @@
 -- What a folder tells before and after files are written.
-use Rattle.std.proofs.Common.{ℕ, ◌≡◌, refl, ap, sym, List, [], ◌++◌, Option, Some, None, option_map, IsNone, append-nil}
+use Rattle.std.proofs.Common.{ℕ, ◌≡◌, refl, ap, sym, List, [], Option, Some, None, option_map, IsNone, append-nil}
 use Rattle.ports.specs.declared.folders.MemFile.{MemFile}
 use Rattle.ports.specs.Folder.{Folder, IsClosed, with_files}
 use Rattle.ports.specs.View.{Became, View}

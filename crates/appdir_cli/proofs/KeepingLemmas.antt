@@ -1,13 +1,10 @@
 -- A face that was kept is what opening its file answers.
-use Rattle.std.proofs.Common.{ℕ, List, [], ◌∷◌, ◌++◌, ◌+◌, ◌<◌, ◌≡◌, refl, ap, sym, ◌∙◌, subst, length, length-append, Option, Some, Result, Ok, Err, slice_get, arith}
-use Rattle.answers.specs.Told.{WhereTold}
-use Rattle.load_model.specs.Opening.{IsObjectAt, IsOpened, IsPlace, OpenerView, kind_in}
+use Rattle.std.proofs.Common.{ℕ, List, [], ◌∷◌, ◌++◌, ◌+◌, ◌<◌, ◌≡◌, refl, ap, sym, ◌∙◌, subst, length, length-append, Some, Result, Ok, Err, slice_get, arith}
+use Rattle.load_model.specs.Opening.{IsOpened, OpenerView, kind_in}
 use Rattle.load_model.specs.World.{World, Object}
 use Rattle.load_model.specs.declared.faces.Face.{Face}
 use Rattle.load_model.specs.declared.opening.OpenFault.{OpenFault}
-use Rattle.load_model.specs.declared.opening.OpenFault.TheVariants.{NoMemory}
 use Rattle.load_model.specs.declared.opening.Opened.{Opened}
-use Rattle.load_model.specs.declared.opening.Opened.TheVariants.{Object as OpensObject}
 use Rattle.load_model.specs.declared.world.WorldFile.{WorldFile}
 use Rattle.appdir_cli.specs.Keeping.{IsKept}
 

@@ -1,17 +1,16 @@
 -- What lies at a path, from what a probe answers and what is seen of the file.
-use Rattle.std.proofs.Common.{ℕ, List, [], ◌∷◌, ◌++◌, ◌<◌, Bool, true, false, ◌≡◌, refl, ap, sym, ◌∙◌, subst, length, Option, Some, None, Result, Ok, Err, find, cond, slice_get, arith}
+use Rattle.std.proofs.Common.{ℕ, List, [], ◌∷◌, Bool, true, false, ◌≡◌, refl, ap, sym, ◌∙◌, length, Option, Some, None, Result, Ok, Err, find, cond}
 use Rattle.std.specs.Str.{bytes_eq}
-use Rattle.answers.specs.Told.{WhereTold}
 use Rattle.byte_view.specs.declared.constants.TheConstants.{EM_X86_64}
 use Rattle.byte_view.specs.declared.flaws.Flaw.{Flaw}
 use Rattle.load_model.proofs.TwoWorlds.{same_bytes}
 use Rattle.load_model.specs.Faces.{face_or_flaw}
-use Rattle.load_model.specs.World.{World, Kind, Absent as KindAbsent, Other, Object, Damaged, file_at, is_other, kind_of, kind_of_file, kind_of_read}
+use Rattle.load_model.specs.World.{World, Absent as KindAbsent, Other, Object, Damaged, file_at, is_other, kind_of}
 use Rattle.load_model.specs.declared.faces.Face.{Face}
 use Rattle.load_model.specs.declared.world.WorldFile.{WorldFile}
 use Rattle.ports.specs.Reading.{bytes_at, bytes_of, found_at, found_of}
 use Rattle.ports.specs.declared.trees.Found.TheVariants.{Absent, File}
-use Rattle.appdir_cli.specs.Reading.{LiesAt, seen_by, seen_in, seen_unless}
+use Rattle.appdir_cli.specs.Reading.{LiesAt, seen_in, seen_unless}
 use Rattle.appdir_cli.specs.declared.reading.Seen.{Seen}
 use Rattle.appdir_cli.specs.declared.reading.Seen.TheVariants.{ForAnother, Faced, Flawed}
 

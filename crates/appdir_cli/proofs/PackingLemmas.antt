@@ -1,7 +1,5 @@
 -- What packing a program comes to, from its steps; and it is one of its outcomes alone.
-use Rattle.std.proofs.Common.{ℕ, ◌-◌, List, [], ◌≡◌, inl, sym, ap, subst, ◌∙◌, arith, length, Bool, true, false, Option, Some, None, Result, Ok, Err}
-use Rattle.answers.specs.Faults.{Rose}
-use Rattle.answers.specs.Told.{WhereTold}
+use Rattle.std.proofs.Common.{ℕ, ◌-◌, List, [], ◌≡◌, inl, sym, ap, subst, ◌∙◌, arith, length, true, false, None, Ok, Err}
 use Rattle.load_model.proofs.LoadLists.{at_most_one, list_or_stop}
 use Rattle.load_model.specs.Faces.{face_or_flaw}
 use Rattle.load_model.specs.Loads.{program_at, program_by}

@@ -1,7 +1,7 @@
 -- What is read of a file tells what a loader sees in all of it.
-use Rattle.std.proofs.Common.{ℕ, zero, suc, List, [], ◌∷◌, ◌+◌, ◌-◌, ◌≤◌, ◌<◌, Bool, true, false, cond, ◌≡◌, refl, ap, sym, ◌∙◌, subst, length, take, drop, arith, min, nat_le, nat_lt, Option, Some, None, Result, Ok, Err, IfOk, lit<, lit≤}
+use Rattle.std.proofs.Common.{ℕ, zero, suc, List, [], ◌∷◌, ◌+◌, ◌-◌, ◌≤◌, ◌<◌, true, false, ◌≡◌, refl, ap, sym, ◌∙◌, length, take, drop, arith, min, nat_le, Option, Result, Ok, Err, IfOk, lit<, lit≤}
 use Rattle.std.proofs.lemmas.List.{drop-take, length-take-le}
-use Rattle.std.proofs.lemmas.Bool.Decides.{nat_tests}
+use Rattle.std.proofs.lemmas.Bool.{le-leb, leb-false, leb-true, lt-ltb}
 use Rattle.std.proofs.Math.Seq.{take-length}
 use Rattle.std.specs.List.{slice_index}
 use Rattle.byteorder.specs.Endian.{little_number}
@@ -29,12 +29,6 @@ slice_index-take (suc n) [] i h = refl
 slice_index-take (suc n) (x ∷ l) zero h = refl
 slice_index-take (suc n) (x ∷ l) (suc i) h = slice_index-take n l i (omega arith)
 
-le_true : (a b : ℕ) → a ≤ b → nat_le a b ≡ true
-le_true a b h = grind (arith, nat_tests)
-
-lt_true : (a b : ℕ) → a < b → nat_lt a b ≡ true
-lt_true a b h = grind (arith, nat_tests)
-
 machine_in_front : (n : ℕ) (bytes : List ℕ) → e_machine (take (18 + (2 + n)) bytes) ≡ e_machine bytes
 unfolding number_at
 machine_in_front n bytes =
@@ -43,8 +37,8 @@ machine_in_front n bytes =
 -- twenty bytes of a file tell whether it is one for another machine
 other_by_front : (m n : ℕ) (bytes : List ℕ) → 20 ≤ n → 20 ≤ length (take n bytes) → 20 ≤ length bytes → is_other m (take n bytes) ≡ is_other m bytes
 other_by_front m n bytes h some enough =
-    let whole : nat_le 20 (length bytes) ≡ true = le_true 20 (length bytes) enough in
-    let part : nat_le 20 (length (take n bytes)) ≡ true = le_true 20 (length (take n bytes)) some in
+    let whole : nat_le 20 (length bytes) ≡ true = le-leb 20 (length bytes) enough in
+    let part : nat_le 20 (length (take n bytes)) ≡ true = le-leb 20 (length (take n bytes)) some in
     let front : take 4 (take n bytes) ≡ take 4 bytes = take_within 4 n bytes (omega arith) in
     let class : slice_index (take n bytes) 4 ≡ slice_index bytes 4 = slice_index-take n bytes 4 (omega arith) in
     let order : slice_index (take n bytes) 5 ≡ slice_index bytes 5 = slice_index-take n bytes 5 (omega arith) in
@@ -56,8 +50,8 @@ other_by_front m n bytes h some enough =
 pub other_front : (m len n : ℕ) (bytes all : List ℕ) → length all ≡ len → bytes ≡ take n all → min len 20 ≤ n → n ≤ len → is_other m bytes ≡ is_other m all
 other_front m len n bytes all count read enough fits =
     elim (nat_le 20 len) as (λ b. nat_le 20 len ≡ b → is_other m bytes ≡ is_other m all) [
-      | true ↦ λ e. (let big : 20 ≤ len = grind (arith, nat_tests) in let much : 20 ≤ n = omega arith in let some : 20 ≤ length (take n all) = omega (arith, length-take-le n all (omega arith)) in ap (λ l. is_other m l) read ∙ other_by_front m n all much some (omega arith))
-      | false ↦ λ e. (let small : len < 20 = grind (arith, nat_tests) in let same : n ≡ length all = omega arith in ap (λ l. is_other m l) (read ∙ (ap (λ k. take k all) same ∙ take-length all)))
+      | true ↦ λ e. (let big : 20 ≤ len = leb-true 20 len e in let much : 20 ≤ n = omega arith in let some : 20 ≤ length (take n all) = omega (arith, length-take-le n all (omega arith)) in ap (λ l. is_other m l) read ∙ other_by_front m n all much some (omega arith))
+      | false ↦ λ e. (let small : len < 20 = leb-false 20 len e in let same : n ≡ length all = omega arith in ap (λ l. is_other m l) (read ∙ (ap (λ k. take k all) same ∙ take-length all)))
     ] refl
 
 -- all of a file was read
@@ -73,7 +67,7 @@ seen_for_another all h = rw h refl
 -- a file that is too long has this flaw
 too_long : (all : List ℕ) → LONGEST_FILE < length all → face_or_flaw all ≡ Err (flaw TOO_BIG (length all) 0)
 unfolding face_or_flaw first_flaw header_flaw ident_flaw
-too_long all h = rw (lt_true LONGEST_FILE (length all) h) refl
+too_long all h = rw (lt-ltb LONGEST_FILE (length all) h) refl
 
 pub seen_too_long : (len : ℕ) (all : List ℕ) → length all ≡ len → LONGEST_FILE < len → is_other EM_X86_64 all ≡ false → Flawed (flaw TOO_BIG len 0) ≡ seen_in all
 unfolding seen_in

@@ -1,5 +1,5 @@
 -- A stop of the load list ends a command as it is refused, or as the read that failed.
-use Rattle.std.proofs.Common.{ℕ, List, [], ◌≡◌, refl, subst, Option, Some, Result, Ok, Err}
+use Rattle.std.proofs.Common.{ℕ, List, [], ◌≡◌, refl, subst, Err}
 use Rattle.answers.specs.Faults.{Rose}
 use Rattle.answers.specs.Told.{WhereTold}
 use Rattle.load_model.specs.Faces.{face_or_flaw}

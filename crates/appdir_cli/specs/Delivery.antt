@@ -48,8 +48,8 @@ pub record IsCutOff (whole : Whole) (before after : View Folder) : Type 0 where
   pub left : Stays before after ⊎ IsPart whole before after
 
 -- How writing the files and saying their line ends with each status.
-abbrev pub IsDelivered : Whole → View Folder → View Folder → View (List ℕ) → View (List ℕ) → Status
-    → Type 0
+abbrev pub IsDelivered : Whole → View Folder → View Folder → View (List ℕ) → View (List ℕ)
+    → Status → Type 0
 IsDelivered whole folder folder' sink sink' Done =
     IsWhole whole folder folder' × Took whole.line sink sink'
 IsDelivered whole folder folder' sink sink' Refused =

@@ -1,6 +1,6 @@
 -- Which programs can be packed without bundling a library: those whose whole load list stands on
 -- the list of names that every host is expected to have.
-use Rattle.std.specs.Prelude.{ℕ, List, [], Bool, false, not, ◌==◌, ◌&&◌, Option, Some, None, is_none, length, map, slice_get, zip}
+use Rattle.std.specs.Prelude.{ℕ, List, Bool, false, not, ◌==◌, ◌&&◌, Option, Some, None, is_none, length, slice_get, zip}
 use Rattle.std.specs.List.{list_all, list_any, range_with_len}
 use Rattle.std.specs.Option.{unwrap_or}
 use Rattle.std.specs.Result.{result_ok}
@@ -39,14 +39,15 @@ has_key name (Some o) = bytes_eq (key_of o) name
 -- A need that is on the list and went to an object, not the program, of which it is the key.
 abbrev pub fits_need : List (List ℕ) → Loaded → List ℕ → Bool
 fits_need names loaded need =
-    is_on_list names need && (not (target_in loaded.log need == 0) && has_key need (slice_get
-    loaded.objs (target_in loaded.log need)))
+    is_on_list names need
+    && (not (target_in loaded.log need == 0)
+    && has_key need (slice_get loaded.objs (target_in loaded.log need)))
 
 -- An object without run paths, all of whose needs are so.
 abbrev pub fits_as_object : List (List ℕ) → Loaded → Object → Bool
 fits_as_object names loaded o =
-    is_none o.face.rpath && (is_none o.face.runpath && list_all (fits_need names loaded)
-    o.face.needs)
+    is_none o.face.rpath
+    && (is_none o.face.runpath && list_all (fits_need names loaded) o.face.needs)
 
 abbrev pub face_of_object : Option Object → Option Face
 face_of_object None = None
@@ -79,8 +80,8 @@ run_fits_needs names faces run needs targets =
 
 abbrev pub fits_in_run : List (List ℕ) → List Face → Run → Option Face → Option (List ℕ) → Bool
 fits_in_run names faces run (Some face) (Some targets) =
-    is_none face.rpath && (is_none face.runpath && run_fits_needs names faces run face.needs
-    targets)
+    is_none face.rpath
+    && (is_none face.runpath && run_fits_needs names faces run face.needs targets)
 fits_in_run names faces run _ _ = false
 
 abbrev pub run_fits_object : List (List ℕ) → List Face → Run → ℕ → Bool

@@ -68,12 +68,14 @@ evidence NotBuilt = codes "not built yet"
 -- The line that says a refusal.
 abbrev pub refusal_line : Refusal → List ℕ
 refusal_line refusal =
-    codes "refused " ++ (decimal (refusal_number refusal) ++ (codes ": " ++ (evidence refusal ++ 10
-    ∷ [])))
+    codes "refused "
+    ++ (decimal (refusal_number refusal) ++ (codes ": " ++ (evidence refusal ++ 10 ∷ [])))
 
 -- The line for a whole AppDir: how many files it has, and how many libraries are bundled and
 -- expected of the host.
 abbrev pub done_line : ℕ → ℕ → ℕ → List ℕ
 done_line files bundled hosts =
-    codes "done: " ++ (decimal files ++ (codes " files, " ++ (decimal bundled ++ (codes " bundled, "
+    codes "done: "
+    ++ (decimal files ++ (codes " files, "
+    ++ (decimal bundled ++ (codes " bundled, "
     ++ (decimal hosts ++ (codes " host libraries" ++ 10 ∷ []))))))

@@ -18,9 +18,9 @@ use Rattle.ports.specs.View.{View}
 abbrev pub IsTreeLoaded : Setting → View World → View World → List Face → List ℕ
     → Result Run LoadStop → Type 0
 IsTreeLoaded setting before after faces path (Ok run) =
-    IsRunOver faces run × WhereTold before.told (λ world. Loads face_or_flaw setting world faces
-    path [] run)
+    IsRunOver faces run
+    × WhereTold before.told (λ world. Loads face_or_flaw setting world faces path [] run)
 IsTreeLoaded setting before after faces path (Err stop) =
-    WhereTold before.told (λ world. IsRefusedBy (IsStopped face_or_flaw setting world path [])
-    (refusal_of stop))
+    WhereTold before.told
+    (λ world. IsRefusedBy (IsStopped face_or_flaw setting world path []) (refusal_of stop))
     × (IsRead stop → Rose before.faults after.faults)

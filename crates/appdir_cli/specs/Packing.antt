@@ -1,14 +1,12 @@
 -- What `quick` comes to: the AppDir of a program whose whole load list is on the list of names, or
 -- the first refusal.
-use Rattle.std.specs.Prelude.{ℕ, ◌-◌, ◌≡◌, List, [], ◌∷◌, Bool, true, false, Option, Some, None, Result, Ok, Err, codes, length}
+use Rattle.std.specs.Prelude.{ℕ, ◌-◌, ◌≡◌, List, [], ◌∷◌, true, false, Some, None, Result, Ok, Err, codes, length}
 use Rattle.byte_view.specs.declared.constants.TheConstants.{EM_X86_64}
 use Rattle.load_model.specs.Faces.{face_or_flaw}
 use Rattle.load_model.specs.LoadList.{Loaded}
 use Rattle.load_model.specs.Loads.{IsLoadList, IsStopped}
 use Rattle.load_model.specs.Replays.{Loads}
-use Rattle.load_model.specs.Runs.{IsRunOver}
 use Rattle.load_model.specs.World.{World, file_at}
-use Rattle.load_model.specs.declared.refusals.LoadRefusal.{LoadRefusal}
 use Rattle.load_model.specs.declared.refusals.LoadRefusal.TheVariants.{NoProgram}
 use Rattle.load_model.specs.declared.setting.Setting.{Setting}
 use Rattle.load_model.specs.declared.world.WorldFile.{WorldFile}

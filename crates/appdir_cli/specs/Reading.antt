@@ -1,5 +1,5 @@
 -- What is read of a file of the tree.
-use Rattle.std.specs.Prelude.{ℕ, List, ◌≡◌, ◌≤◌, Bool, cond, Some, Result, Ok, Err, length, nat_le, take}
+use Rattle.std.specs.Prelude.{ℕ, List, ◌≡◌, Bool, cond, Some, Result, Ok, Err, length}
 use Rattle.answers.specs.Faults.{Rose}
 use Rattle.byte_view.specs.declared.constants.TheConstants.{EM_X86_64}
 use Rattle.byte_view.specs.declared.flaws.Flaw.{Flaw}

@@ -1,7 +1,6 @@
 -- Why a program that is not loaded ends a command.
 use Rattle.load_model.specs.declared.opening.OpenFault.{OpenFault}
 use Rattle.load_model.specs.declared.opening.OpenFault.TheVariants.{Read as ReadFault, Damaged as DamagedFile, NoMemory as NoMemoryOpen}
-use Rattle.load_model.specs.declared.refusals.LoadRefusal.{LoadRefusal}
 use Rattle.load_model.specs.declared.refusals.LoadRefusal.TheVariants.{NoProgram, Damaged, RelativeNeed, TokenInNeed, RelativeItem, TokenUnset, MissingLibrary, TooManyObjects}
 use Rattle.load_order.specs.declared.stops.LoadStop.{LoadStop}
 use Rattle.load_order.specs.declared.stops.LoadStop.TheVariants.{NoProgram as StopNoProgram, MissingLibrary as StopMissing, RelativeNeed as StopRelativeNeed, TokenInNeed as StopTokenInNeed, TooManyObjects as StopTooMany, Search as StopSearch, NoMemory as NoMemoryLoad}

@@ -10,7 +10,6 @@ use Rattle.load_model.specs.declared.setting.Setting.{Setting}
 use Rattle.load_model.specs.declared.world.WorldFile.{WorldFile}
 use Rattle.ports.specs.Folder.{Folder}
 use Rattle.ports.specs.View.{View}
-use Rattle.ports.specs.declared.folders.MemFile.{MemFile}
 use Rattle.appdir_cli.specs.Fitting.{is_all_listed}
 use Rattle.appdir_cli.specs.Packing.{HasList, app_run_of}
 use Rattle.appdir_cli.specs.declared.words.Command.{Command}
@@ -18,8 +17,8 @@ use Rattle.appdir_cli.specs.declared.words.Command.TheVariants.{Quick as AsksQui
 use Rattle.appdir_cli.specs.declared.words.Quick.{Quick}
 
 -- A program that can be packed in a world, with its file and its load list there.
-pub record IsPackable (world : World) (command : Quick) (start : WorldFile) (loaded : Loaded) : Type
-    0 where
+pub record IsPackable (world : World) (command : Quick) (start : WorldFile) (loaded : Loaded)
+    : Type 0 where
   pub lies : file_at world command.program ≡ Some start
   pub loads : HasList world command.program
   pub loaded_is : loads.loaded ≡ loaded
@@ -44,14 +43,14 @@ RunsAlike asked world =
 
 -- The files that the folder gained are the copy of the program alone, which can be packed in this
 -- world; and on every such host it loads the same.
-pub record IsPortable (asked : Option Command) (world : World) (before after : View Folder) : Type 0
-  where
-    pub command : Quick
-    pub quick : asked ≡ Some (AsksQuick command)
-    pub start : WorldFile
-    pub loaded : Loaded
-    pub packable : IsPackable world command start loaded
-    pub files : WhereTold before.told
-        (λ old. (latest : Folder) × (after.told ≡ Some latest)
-        × (latest.finished ≡ old.finished ++ app_run_of start.bytes ∷ []))
-    pub hosts : RunsOnHosts start loaded
+pub record IsPortable (asked : Option Command) (world : World) (before after : View Folder)
+    : Type 0 where
+  pub command : Quick
+  pub quick : asked ≡ Some (AsksQuick command)
+  pub start : WorldFile
+  pub loaded : Loaded
+  pub packable : IsPackable world command start loaded
+  pub files : WhereTold before.told
+      (λ old. (latest : Folder) × (after.told ≡ Some latest)
+      × (latest.finished ≡ old.finished ++ app_run_of start.bytes ∷ []))
+  pub hosts : RunsOnHosts start loaded

@@ -10,16 +10,16 @@ use Rattle.appdir_cli.specs.declared.words.Command.{Command}
 use Rattle.appdir_cli.specs.declared.words.Command.TheVariants.{Quick as AsksQuick}
 use Rattle.appdir_cli.specs.declared.words.Quick.{Quick}
 
--- the words as texts
+-- The words as texts.
 abbrev pub texts : List (String Global) → List (List ℕ)
 texts words = map (λ w. string_bytes w) words
 
--- a word that no shape has: an empty one, or one that begins with `-`
+-- Whether a word has no place in any shape: an empty one, or one that begins with `-`.
 abbrev pub is_unshaped : List ℕ → Bool
 is_unshaped [] = true
 is_unshaped (c ∷ word) = c == 45
 
--- a path that reads, in normal form
+-- A path that reads, in normal form.
 abbrev pub path_told : List ℕ → Option (List ℕ)
 path_told text = result_ok (path_of text)
 
@@ -34,7 +34,7 @@ default_names_list =
     codes "libresolv.so.2" ∷
     codes "libutil.so.1" ∷ []
 
--- the words NAME, or the default names where there are none
+-- The words NAME, or the default names where there are none.
 abbrev pub names_of : List (List ℕ) → List (List ℕ)
 names_of [] = default_names_list
 names_of (name ∷ names) = name ∷ names
@@ -45,17 +45,17 @@ quick_with (Some p) (Some o) ns =
     (Some (record { program = p; out = o; names = names_of ns })) None
 quick_with _ _ ns = None
 
--- PROGRAM OUT [NAME ..]
+-- The shape PROGRAM OUT [NAME ..].
 abbrev pub quick_of : List (List ℕ) → Option Quick
 quick_of (program ∷ out ∷ names) = quick_with (path_told program) (path_told out) names
 quick_of _ = None
 
 abbrev pub shape_of : List (List ℕ) → Option Command
 shape_of (verb ∷ words) =
-    cond (bytes_eq verb (codes "quick")) (option_map (λ quick. AsksQuick quick) (quick_of words))
-    None
+    cond (bytes_eq verb (codes "quick"))
+    (option_map (λ quick. AsksQuick quick) (quick_of words)) None
 shape_of [] = None
 
--- the command that the words have the shape of, or none
+-- The command that the words have the shape of, or none.
 abbrev pub command_of : List (List ℕ) → Option Command
 command_of words = cond (list_any is_unshaped words) None (shape_of words)

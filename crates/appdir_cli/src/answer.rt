@@ -1,5 +1,8 @@
 //! What a command comes to: a text that is said, or files that are written.
 
+ghost use Rattle.std.specs.Prelude.{◌≡◌};
+ghost use Rattle.appdir_cli.specs.declared.answer.Stop.TheVariants.{NoMemory as Exhausted};
+
 use crate::refusal::Refusal;
 use load_model::{List, Text};
 use path_text::{Abs, NoMemory};
@@ -30,10 +33,6 @@ pub enum Stop {
 }
 
 impl From<NoMemory> for Stop {
-    ghost use Rattle.std.specs.Prelude.{◌≡◌};
-    ghost use Rattle.appdir_cli.specs.declared.answer.Stop.{Stop};
-    ghost use Rattle.appdir_cli.specs.declared.answer.Stop.TheVariants.{NoMemory as Exhausted};
-
     ghost from_gives = { λ _ stop. stop ≡ Exhausted };
 
     fn from(_error: NoMemory) -> Self {
@@ -42,10 +41,6 @@ impl From<NoMemory> for Stop {
 }
 
 impl From<AllocError> for Stop {
-    ghost use Rattle.std.specs.Prelude.{◌≡◌};
-    ghost use Rattle.appdir_cli.specs.declared.answer.Stop.{Stop};
-    ghost use Rattle.appdir_cli.specs.declared.answer.Stop.TheVariants.{NoMemory as Exhausted};
-
     ghost from_gives = { λ _ stop. stop ≡ Exhausted };
 
     fn from(_error: AllocError) -> Self {

@@ -30,8 +30,7 @@ pub fn is_all_listed(
 }
 
 fn all_fit(names: &[Name], faces: &[Face], run: &Run) -> bool
-    ensures { result
-        ≡ list_all (run_fits_object names.now faces.now run.now)
+    ensures { result ≡ list_all (run_fits_object names.now faces.now run.now)
         (range_with_len 0 (length run.now.objs)) }
 {
     (0..run.objs.as_slice().len()).all(|j| fits_object(names, faces, run, j))

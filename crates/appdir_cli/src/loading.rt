@@ -34,8 +34,8 @@ pub fn load_program<T: Tree>(
     tree: &mut T,
     program: &Abs,
 ) -> Result<LoadedProgram, Stop>
-    ensures answer { IsStepAnswer (T.seen tree.old) (T.seen tree.new) (λ world outcome. LoadsAs
-        world program.now outcome) result }
+    ensures answer { IsStepAnswer (T.seen tree.old) (T.seen tree.new)
+        (λ world outcome. LoadsAs world program.now outcome) result }
     ensures only_reads { OnlyReads (T.seen tree.old) (T.seen tree.new) }
 {
     let setting = default_setting(alloc)?;
@@ -50,8 +50,8 @@ fn load_with<T: Tree>(
     program: &Abs,
 ) -> Result<LoadedProgram, Stop>
     requires { setting.now ≡ default_setting }
-    ensures answer { IsStepAnswer (T.seen tree.old) (T.seen tree.new) (λ world outcome. LoadsAs
-        world program.now outcome) result }
+    ensures answer { IsStepAnswer (T.seen tree.old) (T.seen tree.new)
+        (λ world outcome. LoadsAs world program.now outcome) result }
     ensures only_reads { OnlyReads (T.seen tree.old) (T.seen tree.new) }
 {
     let mut opener = FileOpener {
@@ -76,8 +76,8 @@ fn load_over<T: Tree>(
 ) -> Result<Run, LoadStop>
     requires { setting.now.machine ≡ THE_MACHINE }
     ensures same_tree { opener.new.tree.ghost_name ≡ opener.old.tree.ghost_name }
-    ensures answer { IsTreeLoaded setting.now (T.seen opener.old.tree.now) (T.seen
-        opener.new.tree.now) opener.new.table program.now result }
+    ensures answer { IsTreeLoaded setting.now (T.seen opener.old.tree.now)
+        (T.seen opener.new.tree.now) opener.new.table program.now result }
     ensures only_reads { OnlyReads (T.seen opener.old.tree.now) (T.seen opener.new.tree.now) }
 {
     load(alloc, opener, setting, program, &[])

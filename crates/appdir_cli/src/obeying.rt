@@ -18,8 +18,8 @@ use std::alloc::Global;
 
 /// What the command comes to.
 fn answer<T: Tree>(alloc: Global, tree: &mut T, command: &Command) -> Result<Answer, Stop>
-    ensures answer { IsStepAnswer (T.seen tree.old) (T.seen tree.new) (λ world outcome. ComesTo
-        world command.now outcome) result }
+    ensures answer { IsStepAnswer (T.seen tree.old) (T.seen tree.new)
+        (λ world outcome. ComesTo world command.now outcome) result }
     ensures only_reads { OnlyReads (T.seen tree.old) (T.seen tree.new) }
 {
     match command {

@@ -19,8 +19,8 @@ use std::alloc::Global;
 
 /// `quick PROGRAM OUT [NAME ..]`: packs one program without a desktop entry.
 pub fn quick<T: Tree>(alloc: Global, tree: &mut T, command: &Quick) -> Result<Answer, Stop>
-    ensures answer { IsStepAnswer (T.seen tree.old) (T.seen tree.new) (λ world outcome. Packs world
-        command.now outcome) result }
+    ensures answer { IsStepAnswer (T.seen tree.old) (T.seen tree.new)
+        (λ world outcome. Packs world command.now outcome) result }
     ensures only_reads { OnlyReads (T.seen tree.old) (T.seen tree.new) }
 {
     let loaded = match load_program(alloc, tree, &command.program) {
@@ -50,8 +50,8 @@ pub fn quick<T: Tree>(alloc: Global, tree: &mut T, command: &Quick) -> Result<An
 
 /// The bytes of the program.
 fn read_program<T: Tree>(alloc: Global, tree: &mut T, path: &Abs) -> Result<Text, Stop>
-    ensures answer { IsStepAnswer (T.seen tree.old) (T.seen tree.new) (λ world outcome. HasBytes
-        world path.now outcome) result }
+    ensures answer { IsStepAnswer (T.seen tree.old) (T.seen tree.new)
+        (λ world outcome. HasBytes world path.now outcome) result }
     ensures only_reads { OnlyReads (T.seen tree.old) (T.seen tree.new) }
 {
     match tree.probe(alloc, path) {

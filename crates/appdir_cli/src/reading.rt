@@ -41,11 +41,11 @@ pub enum Seen {
 /// first window on; of a file that is for another machine, or too long, the first window alone.
 pub fn see<T: Tree>(alloc: Global, tree: &mut T, path: &Abs, len: u64) -> Result<Seen, Stop>
     requires { WhereTold (T.seen tree.old).told (λ world. length (bytes_at world path.now) ≡ len) }
-    ensures seen { IfOk result (λ seen. WhereTold (T.seen tree.old).told (λ world. seen ≡ seen_in
-        (bytes_at world path.now))) }
+    ensures seen { IfOk result (λ seen. WhereTold (T.seen tree.old).told
+        (λ world. seen ≡ seen_in (bytes_at world path.now))) }
     ensures few { IfOk result (λ seen. IsFewSeen seen) }
-    ensures cause { IfErr result (λ stop. IsReadCause (T.seen tree.old).faults (T.seen
-        tree.new).faults stop) }
+    ensures cause { IfErr result
+        (λ stop. IsReadCause (T.seen tree.old).faults (T.seen tree.new).faults stop) }
     ensures only_reads { OnlyReads (T.seen tree.old) (T.seen tree.new) }
 {
     let mut window = vec![in alloc; 0; WINDOW]?;
@@ -76,10 +76,10 @@ pub fn read_whole<T: Tree>(
     len: u64,
 ) -> Result<Vec<u8>, Stop>
     requires { WhereTold (T.seen tree.old).told (λ world. length (bytes_at world path.now) ≡ len) }
-    ensures bytes { IfOk result (λ bytes. WhereTold (T.seen tree.old).told (λ world. bytes.items ≡
-        bytes_at world path.now)) }
-    ensures cause { IfErr result (λ stop. IsReadCause (T.seen tree.old).faults (T.seen
-        tree.new).faults stop) }
+    ensures bytes { IfOk result (λ bytes. WhereTold (T.seen tree.old).told
+        (λ world. bytes.items ≡ bytes_at world path.now)) }
+    ensures cause { IfErr result
+        (λ stop. IsReadCause (T.seen tree.old).faults (T.seen tree.new).faults stop) }
     ensures only_reads { OnlyReads (T.seen tree.old) (T.seen tree.new) }
 {
     let mut window = vec![in alloc; 0; WINDOW]?;
@@ -125,16 +125,16 @@ fn read_to<T: Tree>(
     requires room { 0 < length window.old }
     requires wanted { wanted ≤ len }
     requires fits { vec_len bytes.old ≤ len }
-    requires within { WhereTold (T.seen tree.old).told (λ world. len ≤ length (bytes_at world
-        path.now)) }
-    requires front { WhereTold (T.seen tree.old).told (λ world. bytes.old.items ≡ take (vec_len
-        bytes.old) (bytes_at world path.now)) }
+    requires within { WhereTold (T.seen tree.old).told
+        (λ world. len ≤ length (bytes_at world path.now)) }
+    requires front { WhereTold (T.seen tree.old).told
+        (λ world. bytes.old.items ≡ take (vec_len bytes.old) (bytes_at world path.now)) }
     ensures enough { OnOk result (wanted ≤ vec_len bytes.new) }
     ensures fits { OnOk result (vec_len bytes.new ≤ len) }
-    ensures front { OnOk result (WhereTold (T.seen tree.old).told (λ world. bytes.new.items ≡ take
-        (vec_len bytes.new) (bytes_at world path.now))) }
-    ensures cause { IfErr result (λ stop. IsReadCause (T.seen tree.old).faults (T.seen
-        tree.new).faults stop) }
+    ensures front { OnOk result (WhereTold (T.seen tree.old).told
+        (λ world. bytes.new.items ≡ take (vec_len bytes.new) (bytes_at world path.now))) }
+    ensures cause { IfErr result
+        (λ stop. IsReadCause (T.seen tree.old).faults (T.seen tree.new).faults stop) }
     ensures only_reads { OnlyReads (T.seen tree.old) (T.seen tree.new) }
 {
     'fill: while (bytes.len() as u64) < wanted {
@@ -153,16 +153,16 @@ fn read_more<T: Tree>(
 ) -> Result<(), Stop>
     requires room { 0 < length window.old }
     requires more { vec_len bytes.old < len }
-    requires within { WhereTold (T.seen tree.old).told (λ world. len ≤ length (bytes_at world
-        path.now)) }
-    requires front { WhereTold (T.seen tree.old).told (λ world. bytes.old.items ≡ take (vec_len
-        bytes.old) (bytes_at world path.now)) }
+    requires within { WhereTold (T.seen tree.old).told
+        (λ world. len ≤ length (bytes_at world path.now)) }
+    requires front { WhereTold (T.seen tree.old).told
+        (λ world. bytes.old.items ≡ take (vec_len bytes.old) (bytes_at world path.now)) }
     ensures grown { OnOk result (vec_len bytes.old < vec_len bytes.new) }
     ensures at_most { OnOk result (vec_len bytes.new ≤ len) }
-    ensures front { OnOk result (WhereTold (T.seen tree.old).told (λ world. bytes.new.items ≡ take
-        (vec_len bytes.new) (bytes_at world path.now))) }
-    ensures cause { IfErr result (λ stop. IsReadCause (T.seen tree.old).faults (T.seen
-        tree.new).faults stop) }
+    ensures front { OnOk result (WhereTold (T.seen tree.old).told
+        (λ world. bytes.new.items ≡ take (vec_len bytes.new) (bytes_at world path.now))) }
+    ensures cause { IfErr result
+        (λ stop. IsReadCause (T.seen tree.old).faults (T.seen tree.new).faults stop) }
     ensures only_reads { OnlyReads (T.seen tree.old) (T.seen tree.new) }
 {
     let at = bytes.len();

@@ -53,9 +53,8 @@ pub fn not_empty_text(alloc: Global, path: &Abs) -> Result<Text, NoMemory>
 
 /// `refused N: ` and what is said.
 fn numbered(alloc: Global, number: u8, evidence: &[u8]) -> Result<Text, NoMemory>
-    ensures { IfOk result
-        (λ line. line ≡ codes "refused "
-        ++ (decimal number ++ (codes ": " ++ (evidence.now ++ 10 ∷ [])))) }
+    ensures { IfOk result (λ line. line
+        ≡ codes "refused " ++ (decimal number ++ (codes ": " ++ (evidence.now ++ 10 ∷ [])))) }
 {
     let front = format!(in alloc; "refused {number}: ")?;
     let mut line = Vec::from_slice(alloc, front.as_bytes())?;
@@ -155,8 +154,7 @@ fn too_many(alloc: Global, path: &Abs) -> Result<Text, NoMemory>
 }
 
 fn unsatisfied(alloc: Global, path: &Abs, file: &Name, version: &Name) -> Result<Text, NoMemory>
-    ensures { IfOk result
-        (λ text. text
+    ensures { IfOk result (λ text. text
         ≡ load_evidence (LoadRefusal.UnsatisfiedVersion path.now file.now version.now)) }
 {
     let end = with_field(alloc, b" for ", version.as_bytes(), b"")?;

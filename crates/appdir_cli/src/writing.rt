@@ -10,8 +10,8 @@ use ports::{Failed, MemFile, OutDir};
 pub fn write_items<O: OutDir>(out: &mut O, items: &[MemFile]) -> Result<(), Failed>
     requires { IsClosed (O.seen out.old) }
     ensures all { OnOk result (Became (with_files items.now) (O.seen out.old) (O.seen out.new)) }
-    ensures part { OnErr result ((count : ℕ) × (count < length items.now) × Changed (Added (take
-        count items.now)) (O.seen out.old) (O.seen out.new)) }
+    ensures part { OnErr result ((count : ℕ) × (count < length items.now)
+        × Changed (Added (take count items.now)) (O.seen out.old) (O.seen out.new)) }
     ensures cause { HasCause (O.seen out.old) (O.seen out.new) result }
 {
     for item in items {
@@ -22,8 +22,8 @@ pub fn write_items<O: OutDir>(out: &mut O, items: &[MemFile]) -> Result<(), Fail
 
 fn write_item<O: OutDir>(out: &mut O, item: &MemFile) -> Result<(), Failed>
     requires { IsClosed (O.seen out.old) }
-    ensures written { OnOk result (Became (with_files (item.now ∷ [])) (O.seen out.old) (O.seen
-        out.new)) }
+    ensures written { OnOk result
+        (Became (with_files (item.now ∷ [])) (O.seen out.old) (O.seen out.new)) }
     ensures closed { OnOk result (IsClosed (O.seen out.new)) }
     ensures cut { OnErr result (Changed (Added []) (O.seen out.old) (O.seen out.new)) }
     ensures cause { HasCause (O.seen out.old) (O.seen out.new) result }

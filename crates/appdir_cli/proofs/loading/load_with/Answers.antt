@@ -1,4 +1,4 @@
-use Rattle.std.proofs.Common.{◌≡◌, subst, sym, ap, Err}
+use Rattle.std.proofs.Common.{subst, sym, ap, Err}
 use Rattle.load_model.specs.World.{World}
 use Rattle.ports.specs.View.{View}
 use Rattle.appdir_cli.specs.Packing.{LoadsAs}

@@ -1,7 +1,3 @@
-use Rattle.std.proofs.Common.{sym, subst}
-use Rattle.appdir_cli.specs.ComesTo.{ComesTo}
-use Rattle.appdir_cli.specs.Steps.{IsStepAnswer}
-use Rattle.appdir_cli.specs.declared.words.Command.{Command}
 use Rattle.appdir_cli.proofs.obeying.answer.Goals as goal
 
 pub returns-clause-answer : goal.returns-clause-answer

@@ -1,4 +1,4 @@
-use Rattle.std.proofs.Common.{arith, rules, take, length, vec_len, ◌≡◌, ◌≤◌, ◌++◌, drop, ap, subst, sym, ◌∙◌, List, ℕ}
+use Rattle.std.proofs.Common.{arith, take, length, vec_len, ◌≡◌, ◌≤◌, ◌++◌, drop, ap, subst, sym, ◌∙◌, List, ℕ}
 use Rattle.ports.specs.Reading.{bytes_at}
 use Rattle.appdir_cli.proofs.Lists.{front_grows}
 use Rattle.appdir_cli.proofs.reading.read_more.Goals as goal
@@ -7,9 +7,9 @@ pub returns-clause-front : goal.returns-clause-front
 returns-clause-front g c world told =
     let all : List ℕ = bytes_at world c.args.path.now in
     let items : c.extend_from_slice.new.self.items ≡ c.args.bytes.now.items ++ take c.min-wanted.result c.read_at.new.buf = c.in_ok-extend_from_slice.ensures.items in
-    let at : c.len-at.result ≡ length c.args.bytes.now.items = search rules in
-    let before : vec_len c.args.bytes.now ≡ length c.args.bytes.now.items = search rules in
-    let len : vec_len c.extend_from_slice.new.self ≡ length c.extend_from_slice.new.self.items = search rules in
+    let before : vec_len c.args.bytes.now ≡ length c.args.bytes.now.items = c.args.bytes.now.ok.0 in
+    let at : c.len-at.result ≡ length c.args.bytes.now.items = c.len-at.ensures ∙ before in
+    let len : vec_len c.extend_from_slice.new.self ≡ length c.extend_from_slice.new.self.items = c.extend_from_slice.new.self.ok.0 in
     let front : c.args.bytes.now.items ≡ take (length c.args.bytes.now.items) all = c.requires.front world told ∙ ap (λ k. take k all) before in
     let next : take c.in-Ok.count c.read_at.new.buf ≡ take c.in-Ok.count (drop (length c.args.bytes.now.items) all) = c.in-Ok.ensures.read world told ∙ ap (λ k. take c.in-Ok.count (drop k all)) at in
     let small : c.min-wanted.result ≤ c.in-Ok.count = omega arith in

@@ -1,4 +1,4 @@
-use Rattle.std.proofs.Common.{◌≡◌, ◌∙◌, ◌≤◌, ap, sym, List, ℕ, Some, true, false, length, min, take, vec_len, arith}
+use Rattle.std.proofs.Common.{◌≡◌, ◌∙◌, ◌≤◌, ap, sym, List, ℕ, Some, true, false, length, min, vec_len, arith}
 use Rattle.byte_view.specs.declared.constants.TheConstants.{EM_X86_64}
 use Rattle.load_model.specs.World.{is_other}
 use Rattle.ports.specs.Reading.{bytes_at}

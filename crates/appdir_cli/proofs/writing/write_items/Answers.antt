@@ -1,4 +1,4 @@
-use Rattle.std.proofs.Common.{◌≤◌, arith}
+use Rattle.std.proofs.Common.{arith}
 use Rattle.appdir_cli.proofs.FolderLemmas.{nothing_written}
 use Rattle.appdir_cli.proofs.writing.write_items.Goals as goal
 

@@ -1,6 +1,4 @@
-use Rattle.std.proofs.Common.{◌≡◌, refl, ◌∙◌, ap, sym, subst, List, ℕ, Some}
-use Rattle.load_model.specs.Faces.{face_or_flaw}
-use Rattle.ports.specs.Reading.{bytes_at}
+use Rattle.std.proofs.Common.{◌≡◌, refl, ◌∙◌, sym, Some}
 use Rattle.appdir_cli.specs.Reading.{LiesAt}
 use Rattle.appdir_cli.proofs.KeepingLemmas.{kept_opens}
 use Rattle.appdir_cli.proofs.OpeningLemmas.{file_found, kind_damaged, kind_object, kind_other}
