@@ -30,6 +30,20 @@ pub at_end : {X : Type 0} (xs : List X) (x : X) → slice_get (xs ++ x ∷ []) (
 at_end [] x = refl
 at_end (y ∷ xs) x = at_end xs x
 
+-- an object is known by the code's copy of it, where the faces stay at their places
+same_copy : (before after : List Face) (x : Obj) (o p : Object) → take (length before) after ≡ before → (o.path ≡ x.path) × (o.id ≡ x.id) × (slice_get before x.face ≡ Some o.face) → (p.path ≡ x.path) × (p.id ≡ x.id) × (slice_get after x.face ≡ Some p.face) → p ≡ o
+same_copy before after x o p faces a b =
+    let seen : Some p.face ≡ Some o.face = ◌∙◌ {b = slice_get after x.face} (sym b.2) (in_longer before after x.face o.face faces a.2) in
+    let face : p.face ≡ o.face = cc in
+    let path : p.path ≡ o.path = ◌∙◌ {b = x.path} b.0 (sym a.0) in
+    let id : p.id ≡ o.id = ◌∙◌ {b = x.id} b.1 (sym a.1) in
+    ap (λ t. record { path = t; id = p.id; face = p.face }) path ∙ ap (λ t. record { path = o.path; id = t; face = p.face }) id ∙ ap (λ t. record { path = o.path; id = o.id; face = t }) face
+
+same_there : (before after : List Face) (olds news : List Obj) (os ps : List Object) → take (length before) after ≡ before → take (length olds) news ≡ olds → AreObjects before olds os → AreObjects after news ps → (j : ℕ) (o : Object) (x : Obj) (p : Object) → slice_get os j ≡ Some o → slice_get olds j ≡ Some x → slice_get ps j ≡ Some p → slice_get ps j ≡ Some o
+same_there before after olds news os ps faces front old there j o x p h at got =
+    let same : p ≡ o = same_copy before after x o p faces (old.each j x o at h) (there.each j x p (in_longer olds news j x front at) got) in
+    cc
+
 -- the objects so far stay the same where the faces stay at their places
 pub same_object : (before after : List Face) (olds news : List Obj) (os ps : List Object) → take (length before) after ≡ before → take (length olds) news ≡ olds → length olds ≤ length news → AreObjects before olds os → AreObjects after news ps → (j : ℕ) (o : Object) → slice_get os j ≡ Some o → slice_get ps j ≡ Some o
 same_object before after olds news os ps faces front longer old there j o h =
@@ -38,14 +52,7 @@ same_object before after olds news os ps faces front longer old there j o h =
     let more = there.count in
     let x = some_at olds j (omega arith) in
     let p = some_at ps j (omega arith) in
-    let a = old.each j x.0 o x.1 h in
-    let b = there.each j x.0 p.0 (in_longer olds news j x.0 front x.1) p.1 in
-    let path : p.0.path ≡ o.path = b.0 ∙ sym a.0 in
-    let id : p.0.id ≡ o.id = b.1 ∙ sym a.1 in
-    let seen : Some p.0.face ≡ Some o.face = sym b.2 ∙ in_longer before after x.0.face o.face faces a.2 in
-    let face : p.0.face ≡ o.face = cc in
-    let whole : p.0 ≡ o = ap (λ t. record { path = t; id = p.0.id; face = p.0.face }) path ∙ ap (λ t. record { path = o.path; id = t; face = p.0.face }) id ∙ ap (λ t. record { path = o.path; id = o.id; face = t }) face in
-    p.1 ∙ ap Some whole
+    same_there before after olds news os ps faces front old there j o x.0 p.0 h x.1 p.1
 
 -- the requests for the needs of objects
 asked_in : (k : ℕ) (ns : List (List ℕ)) (ts : List ℕ) (e : ℕ) (n : List ℕ) (t : ℕ) → slice_get ns e ≡ Some n → slice_get ts e ≡ Some t → WentFor (asked_to k ns ts) k n t
@@ -57,6 +64,9 @@ asked_in k (x ∷ ns) (y ∷ ts) zero n t h g =
     (0, ap (λ z. Some (record { request = record { by = k; name = z }; target = y })) a ∙ ap (λ z. Some (record { request = record { by = k; name = n }; target = z })) b)
 asked_in k (x ∷ ns) (y ∷ ts) (suc e) n t h g = let r = asked_in k ns ts e n t h g in (suc r.0, r.1)
 
+went_as : (log : List Asked) (i j : ℕ) (n : List ℕ) (t : ℕ) → i ≡ j → WentFor log i n t → WentFor log j n t
+went_as log i j n t same went = (went.0, went.1 ∙ ap (λ k. Some (record { request = record { by = k; name = n }; target = t })) same)
+
 pub need_in : (i : ℕ) (os : List Object) (tss : List (List ℕ)) (k : ℕ) (o : Object) (ts : List ℕ) → slice_get os k ≡ Some o → slice_get tss k ≡ Some ts → (e : ℕ) (n : List ℕ) (t : ℕ) → slice_get o.face.needs e ≡ Some n → slice_get ts e ≡ Some t → WentFor (needs_asked i os tss) (i + k) n t
 need_in i [] tss k o ts h g e n t p q = cc
 need_in i (x ∷ os) [] k o ts h g e n t p q = cc
@@ -65,12 +75,12 @@ need_in i (x ∷ os) (y ∷ tss) zero o ts h g e n t p q =
     let b : y ≡ ts = cc in
     let z : i ≡ i + 0 = omega arith in
     let r = asked_in i x.face.needs y e n t (ap (λ (w : Object). slice_get w.face.needs e) a ∙ p) (ap (λ w. slice_get w e) b ∙ q) in
-    (r.0, slice_get_left (asked_to i x.face.needs y) (needs_asked (suc i) os tss) r.0 _ r.1 ∙ ap (λ j. Some (record { request = record { by = j; name = n }; target = t })) z)
+    went_as (needs_asked i (x ∷ os) (y ∷ tss)) i (i + 0) n t z (r.0, slice_get_left (asked_to i x.face.needs y) (needs_asked (suc i) os tss) r.0 _ r.1)
 need_in i (x ∷ os) (y ∷ tss) (suc k) o ts h g e n t p q =
     let r = need_in (suc i) os tss k o ts h g e n t p q in
     let w = at_second (asked_to i x.face.needs y) (needs_asked (suc i) os tss) r.0 (record { request = record { by = suc i + k; name = n }; target = t }) r.1 in
     let up : suc i + k ≡ i + suc k = omega arith in
-    (w.0, w.1 ∙ ap (λ j. Some (record { request = record { by = j; name = n }; target = t })) up)
+    went_as (needs_asked i (x ∷ os) (y ∷ tss)) (suc i + k) (i + suc k) n t up (w.0, w.1)
 
 -- what was loaded and asked stays
 pub kept_on : (a b c : Loaded) → StaysInFront a b → StaysInFront b c → StaysInFront a c

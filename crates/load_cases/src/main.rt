@@ -1,0 +1,78 @@
+//! Loads the program of each case of a document, over files in memory, and prints each load list or
+//! refusal that is otherwise than the case wants.
+#![tactic(auto)]
+
+mod case;
+mod fault;
+mod lines;
+mod making;
+mod opening;
+
+use case::{Case, Document};
+use fault::Fault;
+use lines::{run_text, stop_text};
+use load_order::load;
+use making::{names_of, opener_of, program_of, setting_of};
+use std::alloc::Global;
+use std::io;
+
+fn main(rt: HostRuntime) -> io::Result<()> {
+    let text = io::read_to_string(rt.alloc(), rt.reader())?;
+    match toml::from_str::<Document>(rt.alloc(), text.as_str()) {
+        Ok(document) => run_document(&rt, &document),
+        Err(error) => println!(rt; "no document of cases: {error}"),
+    }
+}
+
+fn run_document(rt: &HostRuntime, document: &Document) -> io::Result<()> {
+    for case in document.case.as_slice() {
+        run_case(rt, case)?;
+    }
+    println!(rt; "{} cases", document.case.len())
+}
+
+/// Runs a case, and prints what it came to where it differs.
+fn run_case(rt: &HostRuntime, case: &Case) -> io::Result<()> {
+    let name = case.name.as_str();
+    match differing(rt.alloc(), case) {
+        Ok(None) => Ok(()),
+        Ok(Some(text)) => {
+            let text = str::from_utf8(text.as_slice()).unwrap_or("no text");
+            println!(rt; "{name}:\n{}", text.trim_end())
+        }
+        Err(fault) => println!(rt; "{name}: {fault}"),
+    }
+}
+
+/// The lines of a case that wants others.
+fn differing(alloc: Global, case: &Case) -> Result<Option<Vec<u8>>, Fault> {
+    let text = answer(alloc, case)?;
+    let wanted = wanted_text(alloc, case)?;
+    let is_wanted = if case.many > 0 {
+        text.as_slice().ends_with(wanted.as_slice())
+    } else {
+        text.as_slice() == wanted.as_slice()
+    };
+    Ok(if is_wanted { None } else { Some(text) })
+}
+
+/// Loads the program of a case with the names that it opens.
+fn answer(alloc: Global, case: &Case) -> Result<Vec<u8>, Fault> {
+    let mut opener = opener_of(alloc, case)?;
+    let setting = setting_of(alloc, case)?;
+    let start = program_of(alloc, case)?;
+    let opens = names_of(alloc, case.opens.as_slice())?;
+    match load(alloc, &mut opener, &setting, &start, opens.as_slice()) {
+        Ok(run) => run_text(alloc, &run),
+        Err(stop) => stop_text(alloc, &stop),
+    }
+}
+
+fn wanted_text(alloc: Global, case: &Case) -> Result<Vec<u8>, Fault> {
+    let mut text = Vec::new(alloc);
+    for line in case.wants.as_slice() {
+        text.extend_from_slice(line.as_bytes())?;
+        text.push(b'\n')?;
+    }
+    Ok(text)
+}

@@ -1,0 +1,137 @@
+//! An opener over files in memory, which tells nothing of what it has.
+
+ghost use Rattle.std.specs.Prelude.{◌≡◌, ◌<◌, ◌^◌, ◌∷◌, [], ◌++◌, OnOk, OnErr, length};
+ghost use Rattle.load_model.specs.Opening.{AreFew, IsFew};
+
+use crate::case::Odd;
+use byte_view::constants::EM_X86_64;
+use load_model::{Face, Flaw, List, Name, NoMemory, OpenFault, Opened, Opener};
+use path_text::Abs;
+use std::alloc::Global;
+use std::marker::Model;
+
+/// The flaw of a damaged file.
+const FLAW: Flaw = Flaw {
+    code: 1,
+    a: 0,
+    b: 0,
+};
+
+/// What lies at a path. The face of an odd file is not looked at.
+#[derive(Drop)]
+pub struct Placed {
+    pub path: Abs,
+    pub id: Name,
+    pub odd: Option<Odd>,
+}
+
+/// Faces, as many as numbers of 32 bits count.
+#[derive(Drop)]
+struct Faces {
+    faces: List<Face>,
+}
+
+impl Model for Faces {
+    ghost use Rattle.std.specs.Prelude.{List as Sequence};
+    ghost use Rattle.load_model.specs.declared.faces.Face.{Face};
+    ghost use Rattle.load_model.specs.Opening.{AreFew};
+
+    ghost Value = { Sequence Face };
+
+    ghost view = { λ table. table.faces };
+
+    ghost invariant = { λ table. AreFew table.faces };
+}
+
+impl Faces {
+    fn as_slice(&self) -> &[Face]
+        ensures faces { result.now ≡ self.now }
+        ensures few { AreFew self.now }
+    {
+        self.faces.as_slice()
+    }
+
+    fn add(&mut self, face: Face) -> Result<(), NoMemory>
+        requires { IsFew face }
+        ensures ok { OnOk result (self.new ≡ self.old ++ face ∷ []) }
+        ensures err { OnErr result (self.new ≡ self.old) }
+    {
+        if self.faces.as_slice().len() as u64 + 1 >= 1 << 32 {
+            return Err(NoMemory);
+        }
+        self.faces.push(face)
+    }
+}
+
+/// An opener of these files: each has its face at its own place.
+#[derive(Drop)]
+pub struct FileOpener {
+    files: List<Placed>,
+    faces: Faces,
+}
+
+impl FileOpener {
+    /// No files.
+    pub fn new(alloc: Global) -> Self {
+        FileOpener {
+            files: List::new(alloc),
+            faces: Faces {
+                faces: List::new(alloc),
+            },
+        }
+    }
+
+    /// Adds a file.
+    pub fn add(&mut self, file: Placed, face: Face) -> Result<(), NoMemory>
+        requires { IsFew face }
+    {
+        self.files.push(file)?;
+        self.faces.add(face)
+    }
+}
+
+impl Opener for FileOpener {
+    ghost use Rattle.std.specs.Prelude.{◌-◌, ◌^◌, None};
+    ghost use Rattle.byte_view.specs.declared.constants.TheConstants.{EM_X86_64};
+    ghost use Rattle.load_model.specs.Opening.{OpenerView};
+
+    // its count of faults stands at its last value, so that a fault may come at any call
+    ghost seen = { λ opener. record {
+      told = None;
+      machine = EM_X86_64;
+      faces = opener.faces;
+      faults = 2 ^ 64 - 1;
+      loan = 0;
+    } };
+
+    fn open(&mut self, alloc: Global, path: &Abs) -> Result<Opened, OpenFault> {
+        let count = self.faces.as_slice().len();
+        let files = self.files.as_slice();
+        let place = match files
+            .iter()
+            .position(|file| file.path.as_str() == path.as_str())
+        {
+            Some(place) if place < count => place,
+            _ => return Ok(Opened::Absent),
+        };
+        match files[place].odd {
+            Some(Odd::Other) => Ok(Opened::Other),
+            Some(Odd::Damaged) => match path.copy(alloc) {
+                Ok(path) => Err(OpenFault::Damaged { path, flaw: FLAW }),
+                Err(_) => Err(OpenFault::NoMemory),
+            },
+            Some(Odd::Unreadable) => Err(OpenFault::Read),
+            None => match files[place].id.copy(alloc) {
+                Ok(id) => Ok(Opened::Object {
+                    id,
+                    face: place as u32,
+                }),
+                Err(_) => Err(OpenFault::NoMemory),
+            },
+        }
+    }
+
+    fn faces(&self) -> &[Face] {
+        self.faces.as_slice()
+    }
+}
