@@ -3,9 +3,8 @@
 //! They are those of `hex` or of an object of a `shape`. They are `cut` to a length, and then
 //! `changes` are made in them, each of `hex` at the place `at`.
 
-use crate::fault::Fault;
-use crate::row::Row;
 use crate::shape::{library_shape, shape_of};
+use case_rows::{Fault, Row, decoded};
 use elf_make::{Shape, make_object};
 use load_model::Name;
 use std::alloc::Global;
@@ -59,14 +58,6 @@ pub fn has_pieces(alloc: Global, bytes: &[u8], pieces: &[Value]) -> Result<bool,
         }
     }
     Ok(true)
-}
-
-/// The bytes that hexadecimal digits say.
-pub fn decoded(alloc: Global, digits: &str) -> Result<Vec<u8>, Fault> {
-    match hex::decode(alloc, digits.as_bytes()) {
-        Ok(bytes) => Ok(bytes),
-        Err(_) => Err(Fault::Field("hex")),
-    }
 }
 
 fn made(alloc: Global, shape: &Shape) -> Result<Vec<u8>, Fault> {

@@ -1,8 +1,7 @@
 //! Shapes, as a document has them. What is left out is absent, 0 or false, but for the machine,
 //! which is that of x86-64, and the System V hash table, which is there.
 
-use crate::fault::Fault;
-use crate::row::{Row, text_of};
+use case_rows::{Fault, Row, text_of};
 use elf_make::{Export, Import, Shape};
 use load_model::{Ask, List, Name, NoMemory};
 use std::alloc::Global;

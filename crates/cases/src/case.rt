@@ -1,6 +1,6 @@
 //! The document: worlds, cases, and cases of which each call fails in turn.
 
-use case_files::{Fault, Row};
+use case_rows::{Fault, Row};
 use toml::{Table, Value};
 
 /// What a document has.

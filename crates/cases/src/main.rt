@@ -9,7 +9,7 @@ mod turns;
 mod wants;
 
 use case::{Case, Document, METHODS, name_of};
-use case_files::Fault;
+use case_rows::Fault;
 use ports::MemFile;
 use std::alloc::Global;
 use std::io;

@@ -2,7 +2,8 @@
 
 use crate::case::{Case, Failing, File, Method};
 use appdir_cli::{Status, appdir_main};
-use case_files::{Fault, bytes_of, library_of, text_of};
+use case_files::{bytes_of, library_of};
+use case_rows::{Fault, text_of};
 use load_model::{Name, NoMemory};
 use path_text::{Abs, Rel};
 use ports::{AddFault, Failed, MemOut, MemSink, MemTree, OutDir};

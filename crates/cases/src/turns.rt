@@ -4,7 +4,7 @@ use crate::case::{Case, Failing, Method};
 use crate::outside::{call, let_fail, outside_of};
 use crate::wants::{Ending, are_first_wanted, is_as_wanted, is_root};
 use appdir_cli::Status;
-use case_files::Fault;
+use case_rows::Fault;
 use std::alloc::Global;
 
 /// How many calls of one method are tried.

@@ -3,7 +3,8 @@
 use crate::case::{Case, WantedFile};
 use crate::outside::{Outside, source};
 use appdir_cli::{Status, status_name};
-use case_files::{Fault, bytes_of, decoded, has_pieces};
+use case_files::{bytes_of, has_pieces};
+use case_rows::{Fault, decoded};
 use load_model::Name;
 use ports::MemFile;
 use std::alloc::Global;

@@ -1,6 +1,6 @@
 //! The document: files with what a loader sees in them, and objects with their bytes.
 
-use case_files::{Fault, Row};
+use case_rows::{Fault, Row};
 use toml::{Table, Value};
 
 /// What a document has.

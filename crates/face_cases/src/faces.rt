@@ -2,7 +2,7 @@
 
 use crate::document::Wanted;
 use byte_view::{Flaw, Told, flaw_name, numbers_told};
-use case_files::{Fault, text_of};
+use case_rows::{Fault, text_of};
 use elf_face::{flaw_of, read_face};
 use load_model::{Ask, Face, Name, Sym, Ver, escape};
 use std::alloc::Global;

@@ -6,7 +6,8 @@ mod document;
 mod faces;
 mod objects;
 
-use case_files::{Fault, altered, bytes_of, object_of};
+use case_files::{altered, bytes_of, object_of};
+use case_rows::Fault;
 use document::{ChangedRow, Document, FaceRow, ObjectRow, Wanted, name_of};
 use faces::{told_text, wanted_text};
 use objects::is_as_wanted;

@@ -1,7 +1,8 @@
 //! Objects, and the bytes that they are to have.
 
 use crate::document::ObjectRow;
-use case_files::{Fault, decoded, has_pieces};
+use case_files::has_pieces;
+use case_rows::{Fault, decoded};
 use std::alloc::Global;
 
 /// Whether the object has the length and the bytes that are wanted.

@@ -67,6 +67,14 @@ impl<'a> Row<'a> {
         }
     }
 
+    /// The number of a field that is below 2 ^ 32; 0 where it is absent.
+    pub fn count(&self, name: &'static str) -> Result<u32, Fault> {
+        match u32::try_from(self.number_if_any(name)?.unwrap_or(0)) {
+            Ok(count) => Ok(count),
+            Err(_) => Err(Fault::Field(name)),
+        }
+    }
+
     /// The number of a field that is below 256.
     pub fn byte(&self, name: &'static str) -> Result<u8, Fault> {
         match u8::try_from(self.number(name)?) {
