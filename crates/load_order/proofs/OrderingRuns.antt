@@ -22,7 +22,7 @@ use Rattle.load_model.specs.declared.setting.Setting.{Setting}
 use Rattle.load_model.proofs.AskedNeeds.{get_map}
 use Rattle.load_model.proofs.LoadLists.{is_ended, is_stop, name_has_target}
 use Rattle.load_model.proofs.Places.{slice_get_front}
-use Rattle.load_order.specs.Ending.{AreNoted, IsLoadEnd, StaysInFront, IsPhaseEnd, IsOpening, IsOpeningAll, IsPhaseMore, IsReady, WentFor}
+use Rattle.load_order.specs.Ending.{AreNoted, IsLoadEnd, StaysInFront, IsPhaseEnd, IsOpening, IsOpeningAll, IsPhaseMore, IsPhaseReady, WentFor}
 use Rattle.load_order.specs.Loading.{IsRead, IsRefusedBy, refusal_of}
 use Rattle.load_order.specs.Reaching.{AreReaches, IsMadeOf, IsReach, reached_in, targets_at}
 use Rattle.load_order.specs.Standing.{IsAlone, IsSafe, IsStarted, IsWalked, IsWalkedTo, IsWalking, Stands, start_path}
@@ -162,8 +162,8 @@ module _ (setting : Setting) (v0 v1 v2 : OpenerView) (path : List ℕ) (program 
 pub all_done : (setting : Setting) (told : Option World) (faces : List Face) (path : List ℕ) (program : Object) (opens : List (List ℕ)) (i : ℕ) (s : Loading) (numbers : List ℕ) (loaded : Loaded) (ends : List Loaded) → length opens ≤ i → IsLoadEnd setting told faces path program (take i opens) s numbers loaded ends → IsLoadEnd setting told faces path program opens s numbers loaded ends
 all_done setting told faces path program opens i s numbers loaded ends le e = subst (λ xs. IsLoadEnd setting told faces path program xs s numbers loaded ends) (take_all i opens le) e
 
-pub ready_done : (old new : Loading) (i n : ℕ) (numbers : List ℕ) → i ≡ n → IsReady old new i numbers → IsReady old new n numbers
-ready_done old new i n numbers e r = subst (λ k. IsReady old new k numbers) e r
+pub ready_done : (old new : Loading) (i n : ℕ) (numbers : List ℕ) → i ≡ n → IsPhaseReady old new i numbers → IsPhaseReady old new n numbers
+ready_done old new i n numbers e r = subst (λ k. IsPhaseReady old new k numbers) e r
 
 pub start_stops : (setting : Setting) (told : Option World) (path : List ℕ) (opens : List (List ℕ)) (stop : LoadStop) → WhereTold told (λ world. IsRefusedBy (λ r. program_at face_or_flaw setting world path ≡ Err r) (refusal_of stop)) → WhereTold told (λ world. IsRefusedBy (IsStopped face_or_flaw setting world path opens) (refusal_of stop))
 start_stops setting told path opens stop h world e =
@@ -294,7 +294,7 @@ pub before_opens : (setting : Setting) (v0 v1 v2 : OpenerView) (s0 s1 : Loading)
 before_opens setting v0 v1 v2 s0 s1 path alone safe st walking grew w =
     subst (λ told. IsLoadEnd setting told v2.faces path st.0 [] s1 [] w.end (w.end ∷ [])) (sym grew.world) (first_ended setting v1 v2 s0 s1 path st.0 alone safe st.1 st.2 walking grew w)
 
-pub load_made : (setting : Setting) (v0 v2 v3 : OpenerView) (path : List ℕ) (program : Object) (opens : List (List ℕ)) (s1 s : Loading) (starts : List Loaded) (numbers : List ℕ) (global : ℕ) (run : Run) → OnlyGrew v0 v2 → WhereTold v0.told (λ world. program_at face_or_flaw setting world path ≡ Ok program) → IsSafe v3.faces s → IsReady s1 s (length opens) numbers → s1.phase ≡ 0 → global ≡ length s1.objs → start_count starts ≡ length s1.objs → IsMadeOf s global opens numbers run → IsOpeningAll setting v2 v3 path program opens s starts (Ok numbers) → IsRunOver v3.faces run × HasSmallLoaders run × (run.opens ≡ opens) × WhereTold v0.told (λ world. Loads face_or_flaw setting world v3.faces path opens run)
+pub load_made : (setting : Setting) (v0 v2 v3 : OpenerView) (path : List ℕ) (program : Object) (opens : List (List ℕ)) (s1 s : Loading) (starts : List Loaded) (numbers : List ℕ) (global : ℕ) (run : Run) → OnlyGrew v0 v2 → WhereTold v0.told (λ world. program_at face_or_flaw setting world path ≡ Ok program) → IsSafe v3.faces s → IsPhaseReady s1 s (length opens) numbers → s1.phase ≡ 0 → global ≡ length s1.objs → start_count starts ≡ length s1.objs → IsMadeOf s global opens numbers run → IsOpeningAll setting v2 v3 path program opens s starts (Ok numbers) → IsRunOver v3.faces run × HasSmallLoaders run × (run.opens ≡ opens) × WhereTold v0.told (λ world. Loads face_or_flaw setting world v3.faces path opens run)
 load_made setting v0 v2 v3 path program opens s1 s starts numbers global run grew begins safe ready zero_is global_is starts_is made o =
     let a = ready.phase in
     let b = ready.longer in

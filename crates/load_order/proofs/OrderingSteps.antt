@@ -19,7 +19,7 @@ use Rattle.load_model.specs.declared.refusals.LoadRefusal.{LoadRefusal}
 use Rattle.load_model.specs.declared.runs.Obj.{Obj}
 use Rattle.load_model.specs.declared.setting.Setting.{Setting}
 use Rattle.load_model.proofs.Places.{slice_get-take, slice_get_front}
-use Rattle.load_order.specs.Ending.{AreNoted, IsLoadEnd, StaysInFront, IsPhaseEnd, IsOpening, IsPhaseMore, IsReady, WentFor}
+use Rattle.load_order.specs.Ending.{AreNoted, IsLoadEnd, StaysInFront, IsPhaseEnd, IsOpening, IsPhaseMore, IsPhaseReady, WentFor}
 use Rattle.load_order.specs.Loading.{IsRefusedBy, refusal_of}
 use Rattle.load_order.specs.Standing.{IsAskedFor, IsAsking, IsSafe, IsWalked, IsWalkedTo, IsWalking, Stands, start_path}
 use Rattle.load_order.specs.declared.loading.Loading.{Loading}
@@ -234,7 +234,7 @@ one_below : (bound t k d : ℕ) → t < bound → k < 1 → get_or (t ∷ []) k 
 one_below bound t zero d h b = h
 one_below bound t (suc k) d h b = absurd (omega arith)
 
-pub ready_more : (s0 s s2 : Loading) (i : ℕ) (numbers new : List ℕ) (target : ℕ) → IsReady s0 s i numbers → IsPhaseMore s s2 → target < length s2.objs → new ≡ numbers ++ target ∷ [] → IsReady s0 s2 (i + 1) new
+pub ready_more : (s0 s s2 : Loading) (i : ℕ) (numbers new : List ℕ) (target : ℕ) → IsPhaseReady s0 s i numbers → IsPhaseMore s s2 → target < length s2.objs → new ≡ numbers ++ target ∷ [] → IsPhaseReady s0 s2 (i + 1) new
 ready_more s0 s s2 i numbers new target r more below is =
     let a = r.longer in
     let b = more.longer in

@@ -104,7 +104,7 @@ IsOpeningAll setting before after path program opens new starts (Err stop) =
     × (IsRead stop → Rose before.faults after.faults)
 
 -- The numbers of a load in progress whose needs are all asked for, after as many openings as roots.
-pub record IsReady (old new : Loading) (number : ℕ) (roots : List ℕ) : Type 0 where
+pub record IsPhaseReady (old new : Loading) (number : ℕ) (roots : List ℕ) : Type 0 where
   pub all : length new.targets ≡ length new.objs
   pub longer : length old.objs ≤ length new.objs
   pub phase : new.phase ≡ old.phase + number

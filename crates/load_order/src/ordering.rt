@@ -7,7 +7,7 @@ ghost use Rattle.std.specs.Prelude.{◌≡◌, ◌<◌, ◌≤◌, List as Seque
 ghost use Rattle.load_model.specs.LoadList.{Loaded, Object};
 ghost use Rattle.load_model.specs.Opening.{OnlyGrew};
 ghost use Rattle.load_model.specs.Runs.{AreBelow};
-ghost use Rattle.load_order.specs.Ending.{IsLoadEnd, IsOpening, IsOpeningAll, IsPhaseMore, IsReady};
+ghost use Rattle.load_order.specs.Ending.{IsLoadEnd, IsOpening, IsOpeningAll, IsPhaseMore, IsPhaseReady};
 ghost use Rattle.load_order.specs.Loading.{IsLoadAnswer};
 ghost use Rattle.load_order.specs.Reaching.{IsMadeOf};
 ghost use Rattle.load_order.specs.Standing.{IsSafe, Stands};
@@ -65,7 +65,7 @@ fn open_all<P: Opener>(
     requires safe { IsSafe (P.seen opener.old).faces loading.old }
     requires all { length loading.old.targets ≡ length loading.old.objs }
     ensures safe { OnOk result (IsSafe (P.seen opener.new).faces loading.new) }
-    ensures ready { IfOk result (λ roots. IsReady loading.old loading.new (length opens.now)
+    ensures ready { IfOk result (λ roots. IsPhaseReady loading.old loading.new (length opens.now)
         roots) }
     ensures answer { (path : Sequence ℕ) (program : Object) (loaded : Loaded)
         (ends : Sequence Loaded)
