@@ -1,6 +1,6 @@
 //! Load lists and refusals as lines.
 
-use crate::fault::Fault;
+use case_rows::Fault;
 use load_model::{Obj, OpenFault, Run, escape};
 use load_order::LoadStop;
 use search_paths::SearchStop;

@@ -3,37 +3,48 @@
 #![tactic(auto)]
 
 mod case;
-mod fault;
 mod lines;
 mod making;
 mod opening;
 
-use case::{Case, Document};
-use fault::Fault;
+use case::{Case, name_of};
+use case_rows::{Fault, Row, text_of};
 use lines::{run_text, stop_text};
 use load_order::load;
 use making::{names_of, opener_of, program_of, setting_of};
 use std::alloc::Global;
 use std::io;
+use toml::{Table, Value};
 
 fn main(rt: HostRuntime) -> io::Result<()> {
     let text = io::read_to_string(rt.alloc(), rt.reader())?;
-    match toml::from_str::<Document>(rt.alloc(), text.as_str()) {
-        Ok(document) => run_document(&rt, &document),
-        Err(error) => println!(rt; "no document of cases: {error}"),
+    match toml::table_from_str(rt.alloc(), text.as_str()) {
+        Ok(table) => run_table(&rt, &table),
+        Err(error) => println!(rt; "no document: {error}"),
     }
 }
 
-fn run_document(rt: &HostRuntime, document: &Document) -> io::Result<()> {
-    for case in document.case.as_slice() {
+fn run_table(rt: &HostRuntime, table: &Table) -> io::Result<()> {
+    match cases_of(table) {
+        Ok(cases) => run_cases(rt, cases),
+        Err(fault) => println!(rt; "no document of cases: {fault}"),
+    }
+}
+
+fn cases_of(table: &Table) -> Result<&[Value], Fault> {
+    Row::of_table(table, &["case"])?.list("case")
+}
+
+fn run_cases(rt: &HostRuntime, cases: &[Value]) -> io::Result<()> {
+    for case in cases {
         run_case(rt, case)?;
     }
-    println!(rt; "{} cases", document.case.len())
+    println!(rt; "{} cases", cases.len())
 }
 
 /// Runs a case, and prints what it came to where it differs.
-fn run_case(rt: &HostRuntime, case: &Case) -> io::Result<()> {
-    let name = case.name.as_str();
+fn run_case(rt: &HostRuntime, case: &Value) -> io::Result<()> {
+    let name = name_of(case);
     match differing(rt.alloc(), case) {
         Ok(None) => Ok(()),
         Ok(Some(text)) => {
@@ -45,9 +56,10 @@ fn run_case(rt: &HostRuntime, case: &Case) -> io::Result<()> {
 }
 
 /// The lines of a case that wants others.
-fn differing(alloc: Global, case: &Case) -> Result<Option<Vec<u8>>, Fault> {
-    let text = answer(alloc, case)?;
-    let wanted = wanted_text(alloc, case)?;
+fn differing(alloc: Global, value: &Value) -> Result<Option<Vec<u8>>, Fault> {
+    let case = Case::of(value)?;
+    let text = answer(alloc, &case)?;
+    let wanted = wanted_text(alloc, &case)?;
     let is_wanted = if case.many > 0 {
         text.as_slice().ends_with(wanted.as_slice())
     } else {
@@ -57,21 +69,21 @@ fn differing(alloc: Global, case: &Case) -> Result<Option<Vec<u8>>, Fault> {
 }
 
 /// Loads the program of a case with the names that it opens.
-fn answer(alloc: Global, case: &Case) -> Result<Vec<u8>, Fault> {
+fn answer(alloc: Global, case: &Case<'_>) -> Result<Vec<u8>, Fault> {
     let mut opener = opener_of(alloc, case)?;
     let setting = setting_of(alloc, case)?;
     let start = program_of(alloc, case)?;
-    let opens = names_of(alloc, case.opens.as_slice())?;
+    let opens = names_of(alloc, case.opens)?;
     match load(alloc, &mut opener, &setting, &start, opens.as_slice()) {
         Ok(run) => run_text(alloc, &run),
         Err(stop) => stop_text(alloc, &stop),
     }
 }
 
-fn wanted_text(alloc: Global, case: &Case) -> Result<Vec<u8>, Fault> {
+fn wanted_text(alloc: Global, case: &Case<'_>) -> Result<Vec<u8>, Fault> {
     let mut text = Vec::new(alloc);
-    for line in case.wants.as_slice() {
-        text.extend_from_slice(line.as_bytes())?;
+    for line in case.wants {
+        text.extend_from_slice(text_of(line)?.as_bytes())?;
         text.push(b'\n')?;
     }
     Ok(text)
