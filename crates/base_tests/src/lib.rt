@@ -14,3 +14,5 @@ mod numbers;
 mod offers;
 #[cfg(test)]
 mod paths;
+#[cfg(test)]
+mod searching;

@@ -18,4 +18,3 @@ pub use mem_sink::MemSink;
 pub use mem_tree::{AddFault, MemTree};
 pub use sinks::Sink;
 pub use trees::{Found, ProbeStop, Tree};
-
