@@ -1,5 +1,6 @@
 //! A search in directories alone.
 
+use byte_view::flaws::NOT_ELF;
 use load_model::{Face, Flaw, Name, OpenFault, Opened, Opener};
 use path_text::Abs;
 use search_paths::{Hit, SearchStop, search_dirs};
@@ -12,11 +13,12 @@ struct Broken;
 
 impl Opener for Broken {
     ghost use Rattle.std.specs.Prelude.{[], None};
+    ghost use Rattle.byte_view.specs.declared.constants.TheConstants.{EM_X86_64};
     ghost use Rattle.load_model.specs.Opening.{OpenerView};
 
     ghost seen = { λ _. record {
       told = None;
-      machine = 62;
+      machine = EM_X86_64;
       faces = [];
       faults = 0;
       loan = 0;
@@ -30,7 +32,7 @@ impl Opener for Broken {
             Ok(path) => Err(OpenFault::Damaged {
                 path,
                 flaw: Flaw {
-                    code: 1,
+                    code: NOT_ELF,
                     a: 0,
                     b: 0,
                 },

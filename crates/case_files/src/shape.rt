@@ -1,14 +1,12 @@
 //! Shapes, as a document has them. What is left out is absent, 0 or false, but for the machine,
 //! which is that of x86-64, and the System V hash table, which is there.
 
+use byte_view::constants::EM_X86_64;
 use case_rows::{Fault, Row, text_of};
 use elf_make::{Export, Import, Shape};
 use load_model::{Ask, List, Name, NoMemory};
 use std::alloc::Global;
 use toml::Value;
-
-/// The machine x86-64.
-const MACHINE: u16 = 62;
 
 /// The names of a shape's fields.
 const FIELDS: [&str; 15] = [
@@ -27,7 +25,7 @@ pub fn shape_of(alloc: Global, table: &Value) -> Result<Shape, Fault> {
 /// A library that needs nothing.
 pub fn library_shape(alloc: Global) -> Result<Shape, Fault> {
     Ok(Shape {
-        machine: MACHINE,
+        machine: EM_X86_64,
         interp: None,
         soname: None,
         needs: List::new(alloc),

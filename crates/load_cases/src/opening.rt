@@ -5,6 +5,7 @@ ghost use Rattle.load_model.specs.Opening.{AreFew, IsFew};
 
 use crate::case::Odd;
 use byte_view::constants::EM_X86_64;
+use byte_view::flaws::NOT_ELF;
 use load_model::{Face, Flaw, List, Name, NoMemory, OpenFault, Opened, Opener};
 use path_text::Abs;
 use std::alloc::Global;
@@ -12,7 +13,7 @@ use std::marker::Model;
 
 /// The flaw of a damaged file.
 const FLAW: Flaw = Flaw {
-    code: 1,
+    code: NOT_ELF,
     a: 0,
     b: 0,
 };
