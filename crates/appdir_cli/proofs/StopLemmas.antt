@@ -8,9 +8,9 @@ use Rattle.load_model.specs.World.{World}
 use Rattle.load_model.specs.declared.faces.Face.{Face}
 use Rattle.load_model.specs.declared.setting.Setting.{Setting}
 use Rattle.load_model.specs.declared.opening.OpenFault.TheVariants.{Read, Damaged as OpensDamaged, NoMemory as OpensNoMemory}
-use Rattle.load_order.specs.Loading.{IsRead, IsRefusedBy, refusal_of}
-use Rattle.load_order.specs.declared.stops.LoadStop.{LoadStop}
-use Rattle.load_order.specs.declared.stops.LoadStop.TheVariants.{NoProgram, MissingLibrary, RelativeNeed, TokenInNeed, TooManyObjects, Search, NoMemory}
+use Rattle.load_requests.specs.Loading.{IsRead, IsRefusedBy, refusal_of}
+use Rattle.load_requests.specs.declared.stops.LoadStop.{LoadStop}
+use Rattle.load_requests.specs.declared.stops.LoadStop.TheVariants.{NoProgram, MissingLibrary, RelativeNeed, TokenInNeed, TooManyObjects, Search, NoMemory}
 use Rattle.ports.specs.View.{View}
 use Rattle.search_paths.specs.declared.hits.SearchStop.TheVariants.{RelativeItem, TokenUnset, Open, NoMemory as SearchNoMemory}
 use Rattle.appdir_cli.specs.Loading.{IsTreeLoaded}

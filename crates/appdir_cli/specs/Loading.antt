@@ -11,8 +11,8 @@ use Rattle.load_model.specs.World.{World}
 use Rattle.load_model.specs.declared.faces.Face.{Face}
 use Rattle.load_model.specs.declared.runs.Run.{Run}
 use Rattle.load_model.specs.declared.setting.Setting.{Setting}
-use Rattle.load_order.specs.Loading.{IsRead, IsRefusedBy, refusal_of}
-use Rattle.load_order.specs.declared.stops.LoadStop.{LoadStop}
+use Rattle.load_requests.specs.Loading.{IsRead, IsRefusedBy, refusal_of}
+use Rattle.load_requests.specs.declared.stops.LoadStop.{LoadStop}
 use Rattle.ports.specs.View.{View}
 
 abbrev pub IsTreeLoaded : Setting → View World → View World → List Face → List ℕ

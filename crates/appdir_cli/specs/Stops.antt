@@ -2,8 +2,8 @@
 use Rattle.load_model.specs.declared.opening.OpenFault.{OpenFault}
 use Rattle.load_model.specs.declared.opening.OpenFault.TheVariants.{Read as ReadFault, Damaged as DamagedFile, NoMemory as NoMemoryOpen}
 use Rattle.load_model.specs.declared.refusals.LoadRefusal.TheVariants.{NoProgram, Damaged, RelativeNeed, TokenInNeed, RelativeItem, TokenUnset, MissingLibrary, TooManyObjects}
-use Rattle.load_order.specs.declared.stops.LoadStop.{LoadStop}
-use Rattle.load_order.specs.declared.stops.LoadStop.TheVariants.{NoProgram as StopNoProgram, MissingLibrary as StopMissing, RelativeNeed as StopRelativeNeed, TokenInNeed as StopTokenInNeed, TooManyObjects as StopTooMany, Search as StopSearch, NoMemory as NoMemoryLoad}
+use Rattle.load_requests.specs.declared.stops.LoadStop.{LoadStop}
+use Rattle.load_requests.specs.declared.stops.LoadStop.TheVariants.{NoProgram as StopNoProgram, MissingLibrary as StopMissing, RelativeNeed as StopRelativeNeed, TokenInNeed as StopTokenInNeed, TooManyObjects as StopTooMany, Search as StopSearch, NoMemory as NoMemoryLoad}
 use Rattle.search_paths.specs.declared.hits.SearchStop.{SearchStop}
 use Rattle.search_paths.specs.declared.hits.SearchStop.TheVariants.{RelativeItem as StopRelativeItem, TokenUnset as StopTokenUnset, Open, NoMemory as NoMemorySearch}
 use Rattle.appdir_cli.specs.declared.answer.Stop.{Stop}

@@ -1,10 +1,3 @@
-pub mod AskingAnswers
-pub mod AskingChains
-pub mod AskingFound
-pub mod AskingGrown
-pub mod AskingPlaces
-pub mod AskingProgram
-pub mod AskingSteps
 pub mod OrderingLemmas
 pub mod OrderingRuns
 pub mod OrderingSteps

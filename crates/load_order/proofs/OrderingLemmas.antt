@@ -16,7 +16,7 @@ use Rattle.load_model.proofs.History.{at_second}
 use Rattle.load_model.proofs.Machine.{next_ok, slice_get-drop}
 use Rattle.load_model.proofs.Places.{slice_get-take, slice_get_front}
 use Rattle.load_order.specs.Ending.{AreNoted, StaysInFront, WentFor}
-use Rattle.load_order.specs.Standing.{asked_to, needs_asked, number_of, start_path}
+use Rattle.load_requests.specs.Standing.{asked_to, needs_asked, number_of, start_path}
 
 pub some_at : {X : Type 0} (xs : List X) (j : ℕ) → j < length xs → (x : X) × (slice_get xs j ≡ Some x)
 some_at [] j h = absurd (omega arith)

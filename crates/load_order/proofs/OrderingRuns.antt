@@ -23,11 +23,11 @@ use Rattle.load_model.proofs.AskedNeeds.{get_map}
 use Rattle.load_model.proofs.LoadLists.{is_ended, is_stop, name_has_target}
 use Rattle.load_model.proofs.Places.{slice_get_front}
 use Rattle.load_order.specs.Ending.{AreNoted, IsLoadEnd, StaysInFront, IsPhaseEnd, IsOpening, IsOpeningAll, IsPhaseMore, IsPhaseReady, WentFor}
-use Rattle.load_order.specs.Loading.{IsRead, IsRefusedBy, refusal_of}
+use Rattle.load_requests.specs.Loading.{IsRead, IsRefusedBy, refusal_of}
 use Rattle.load_order.specs.Reaching.{AreReaches, IsMadeOf, IsReach, reached_in, targets_at}
-use Rattle.load_order.specs.Standing.{IsAlone, IsSafe, IsStarted, IsWalked, IsWalkedTo, IsWalking, Stands, start_path}
-use Rattle.load_order.specs.declared.loading.Loading.{Loading}
-use Rattle.load_order.specs.declared.stops.LoadStop.{LoadStop}
+use Rattle.load_requests.specs.Standing.{IsAlone, IsSafe, IsStarted, IsWalked, IsWalkedTo, IsWalking, Stands, start_path}
+use Rattle.load_requests.specs.declared.loading.Loading.{Loading}
+use Rattle.load_requests.specs.declared.stops.LoadStop.{LoadStop}
 use Rattle.load_order.proofs.OrderingLemmas.{first_phase, kept_log, kept_start, noted_walk, phase_new, same_object, some_at, start_more}
 use Rattle.load_order.proofs.OrderingSteps.{ended_more, ended_stop, refused_by, rose_on}
 use Rattle.load_order.proofs.ReachingLemmas.{pushed}

@@ -20,10 +20,10 @@ use Rattle.load_model.specs.declared.runs.Obj.{Obj}
 use Rattle.load_model.specs.declared.setting.Setting.{Setting}
 use Rattle.load_model.proofs.Places.{slice_get-take, slice_get_front}
 use Rattle.load_order.specs.Ending.{AreNoted, IsLoadEnd, StaysInFront, IsPhaseEnd, IsOpening, IsPhaseMore, IsPhaseReady, WentFor}
-use Rattle.load_order.specs.Loading.{IsRefusedBy, refusal_of}
-use Rattle.load_order.specs.Standing.{IsAskedFor, IsAsking, IsSafe, IsWalked, IsWalkedTo, IsWalking, Stands, start_path}
-use Rattle.load_order.specs.declared.loading.Loading.{Loading}
-use Rattle.load_order.specs.declared.stops.LoadStop.{LoadStop}
+use Rattle.load_requests.specs.Loading.{IsRefusedBy, refusal_of}
+use Rattle.load_requests.specs.Standing.{IsAskedFor, IsAsking, IsSafe, IsWalked, IsWalkedTo, IsWalking, Stands, start_path}
+use Rattle.load_requests.specs.declared.loading.Loading.{Loading}
+use Rattle.load_requests.specs.declared.stops.LoadStop.{LoadStop}
 use Rattle.load_order.proofs.OrderingLemmas.{at_end, kept_found, kept_log, kept_on, kept_start, noted_kept, noted_walk, phase_err, phase_new, phase_ok, phase_old, phases_more, phases_rest, run_step, run_stop, ends_step, same_object, went_found}
 use Rattle.load_order.proofs.ReachingLemmas.{pushed}
 

@@ -12,12 +12,12 @@ use Rattle.load_model.specs.Opening.{OnlyGrew, OpenerView}
 use Rattle.load_model.specs.Runs.{AreBelow}
 use Rattle.load_model.specs.declared.refusals.LoadRefusal.{LoadRefusal}
 use Rattle.load_model.specs.declared.setting.Setting.{Setting}
-use Rattle.load_order.specs.Loading.{IsRefusedBy, refusal_of}
+use Rattle.load_requests.specs.Loading.{IsRefusedBy, refusal_of}
 use Rattle.load_order.specs.Needing.{AreAsked, AreAskedTo, requests_by}
-use Rattle.load_order.specs.Standing.{IsAskedFor, IsAsking, IsSafe, Stands, asked_to, number_of, start_path}
-use Rattle.load_order.specs.declared.loading.Loading.{Loading}
-use Rattle.load_order.specs.declared.stops.LoadStop.{LoadStop}
-use Rattle.load_order.specs.declared.stops.LoadStop.TheVariants.{NoMemory}
+use Rattle.load_requests.specs.Standing.{IsAskedFor, IsAsking, IsSafe, Stands, asked_to, number_of, start_path}
+use Rattle.load_requests.specs.declared.loading.Loading.{Loading}
+use Rattle.load_requests.specs.declared.stops.LoadStop.{LoadStop}
+use Rattle.load_requests.specs.declared.stops.LoadStop.TheVariants.{NoMemory}
 use Rattle.load_order.proofs.WalkingLists.{asked_push, front_on, get_cases, start_kept}
 
 pub grew_on : (b0 b1 b2 : OpenerView) → OnlyGrew b0 b1 → OnlyGrew b1 b2 → OnlyGrew b0 b2

@@ -3,7 +3,7 @@ use Rattle.std.proofs.Common.{◌≡◌, ◌∙◌, sym, ap, refl, ℕ, zero, su
 use Rattle.std.proofs.lemmas.List.{append-nil, take-take}
 use Rattle.load_model.specs.Candidates.{path_by}
 use Rattle.load_model.specs.LoadList.{Object}
-use Rattle.load_order.specs.Standing.{asked_to, needs_asked}
+use Rattle.load_requests.specs.Standing.{asked_to, needs_asked}
 
 pub get_push : {X : Type 0} (xs : List X) (x : X) (m : ℕ) (y : X) → slice_get (xs ++ x ∷ []) m ≡ Some y → (slice_get xs m ≡ Some y) ⊎ ((m ≡ length xs) × (x ≡ y))
 get_push [] x zero y h = inr (refl, cc)

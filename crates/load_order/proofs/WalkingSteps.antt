@@ -13,12 +13,12 @@ use Rattle.load_model.specs.Runs.{AreBelow}
 use Rattle.load_model.specs.declared.faces.Face.{Face}
 use Rattle.load_model.specs.declared.runs.Obj.{Obj}
 use Rattle.load_model.specs.declared.setting.Setting.{Setting}
-use Rattle.load_order.specs.Loading.{refusal_of}
+use Rattle.load_requests.specs.Loading.{refusal_of}
 use Rattle.load_order.specs.Needing.{AreAsked, AreAskedTo, AreNeedsOf, requests_by}
-use Rattle.load_order.specs.Standing.{IsAsking, IsSafe, IsWalked, IsWalkedTo, IsWalking, Stands, asked_to, needs_asked, start_path}
-use Rattle.load_order.specs.declared.loading.Loading.{Loading}
-use Rattle.load_order.specs.declared.stops.LoadStop.{LoadStop}
-use Rattle.load_order.specs.declared.stops.LoadStop.TheVariants.{NoMemory}
+use Rattle.load_requests.specs.Standing.{IsAsking, IsSafe, IsWalked, IsWalkedTo, IsWalking, Stands, asked_to, needs_asked, start_path}
+use Rattle.load_requests.specs.declared.loading.Loading.{Loading}
+use Rattle.load_requests.specs.declared.stops.LoadStop.{LoadStop}
+use Rattle.load_requests.specs.declared.stops.LoadStop.TheVariants.{NoMemory}
 use Rattle.load_order.proofs.WalkingLists.{front_on, get_cases, get_kept, get_push, get_there, needs_front, needs_push, start_kept}
 use Rattle.load_order.proofs.WalkingAsks.{grew_not, grew_on, refused_by, rose_on, within}
 

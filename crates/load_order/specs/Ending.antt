@@ -12,10 +12,10 @@ use Rattle.load_model.specs.declared.faces.Face.{Face}
 use Rattle.load_model.specs.declared.limits.TheConstants.{MOST_OBJECTS}
 use Rattle.load_model.specs.declared.runs.Obj.{Obj}
 use Rattle.load_model.specs.declared.setting.Setting.{Setting}
-use Rattle.load_order.specs.Loading.{IsRead, IsRefusedBy, refusal_of}
-use Rattle.load_order.specs.Standing.{Stands, start_path}
-use Rattle.load_order.specs.declared.loading.Loading.{Loading}
-use Rattle.load_order.specs.declared.stops.LoadStop.{LoadStop}
+use Rattle.load_requests.specs.Loading.{IsRead, IsRefusedBy, refusal_of}
+use Rattle.load_requests.specs.Standing.{Stands, start_path}
+use Rattle.load_requests.specs.declared.loading.Loading.{Loading}
+use Rattle.load_requests.specs.declared.stops.LoadStop.{LoadStop}
 
 -- The request of an object for a name went to this target.
 abbrev pub WentFor : List Asked → ℕ → List ℕ → ℕ → Type 0

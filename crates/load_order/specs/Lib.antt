@@ -1,7 +1,4 @@
-pub mod Asking
+pub mod Answering
 pub mod Ending
-pub mod Known
-pub mod Loading
 pub mod Needing
 pub mod Reaching
-pub mod Standing

@@ -9,10 +9,10 @@ use Rattle.load_model.specs.Opening.{OpenerView}
 use Rattle.load_model.specs.declared.faces.Face.{Face}
 use Rattle.load_model.specs.declared.runs.Obj.{Obj}
 use Rattle.load_model.specs.declared.setting.Setting.{Setting}
-use Rattle.load_order.specs.Loading.{IsRead, IsRefusedBy, refusal_of}
-use Rattle.load_order.specs.Standing.{Stands, asked_to, start_path}
-use Rattle.load_order.specs.declared.loading.Loading.{Loading}
-use Rattle.load_order.specs.declared.stops.LoadStop.{LoadStop}
+use Rattle.load_requests.specs.Loading.{IsRead, IsRefusedBy, refusal_of}
+use Rattle.load_requests.specs.Standing.{Stands, asked_to, start_path}
+use Rattle.load_requests.specs.declared.loading.Loading.{Loading}
+use Rattle.load_requests.specs.declared.stops.LoadStop.{LoadStop}
 
 -- The requests of an object for these names.
 abbrev pub requests_by : ℕ → List (List ℕ) → List Request

@@ -5,7 +5,7 @@ use Rattle.std.specs.Option.{unwrap_or}
 use Rattle.load_model.specs.LoadList.{with_numbers}
 use Rattle.load_model.specs.Runs.{AreBelow}
 use Rattle.load_model.specs.declared.runs.Run.{Run}
-use Rattle.load_order.specs.declared.loading.Loading.{Loading}
+use Rattle.load_requests.specs.declared.loading.Loading.{Loading}
 
 -- Where the needs of the object of this number went.
 abbrev pub targets_at : List (List ℕ) → ℕ → List ℕ

@@ -4,14 +4,9 @@
 //! `load_model`.
 #![tactic(auto)]
 
-mod known;
-mod loading;
 mod locals;
 mod ordering;
 mod phases;
-mod program;
-mod requests;
-mod stops;
 
+pub use load_requests::LoadStop;
 pub use ordering::load;
-pub use stops::LoadStop;

@@ -1,24 +1,21 @@
 //! The load list of a program and of the names that it opens.
 //!
 //! ld.so(8), dlopen(3). Load lists are said in `specs/Loads.antt` of `load_model`, the answer in
-//! `specs/Loading.antt`, and the phases in `specs/Ending.antt`.
+//! `specs/Answering.antt`, and the phases in `specs/Ending.antt`.
 
 ghost use Rattle.std.specs.Prelude.{◌≡◌, ◌<◌, ◌≤◌, List as Sequence, [], ℕ, All, IfOk, OnOk, length};
 ghost use Rattle.load_model.specs.LoadList.{Loaded, Object};
 ghost use Rattle.load_model.specs.Opening.{OnlyGrew};
 ghost use Rattle.load_model.specs.Runs.{AreBelow};
 ghost use Rattle.load_order.specs.Ending.{IsLoadEnd, IsOpening, IsOpeningAll, IsPhaseMore, IsPhaseReady};
-ghost use Rattle.load_order.specs.Loading.{IsLoadAnswer};
+ghost use Rattle.load_order.specs.Answering.{IsLoadAnswer};
 ghost use Rattle.load_order.specs.Reaching.{IsMadeOf};
-ghost use Rattle.load_order.specs.Standing.{IsSafe, Stands};
+ghost use Rattle.load_requests.specs.Standing.{IsSafe, Stands};
 
-use crate::loading::Loading;
 use crate::locals::local_lists;
 use crate::phases::walk;
-use crate::program::start as start_with;
-use crate::requests::{Request, ask};
-use crate::stops::LoadStop;
 use load_model::{List, Name, Opener, Run, Setting};
+use load_requests::{LoadStop, Loading, Request, ask, start as start_with};
 use path_text::{Abs, NoMemory};
 use std::alloc::Global;
 

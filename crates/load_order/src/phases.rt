@@ -8,12 +8,10 @@ ghost use Rattle.load_model.specs.LoadList.{Loaded};
 ghost use Rattle.load_model.specs.Opening.{OnlyGrew};
 ghost use Rattle.load_model.specs.Runs.{AreBelow};
 ghost use Rattle.load_order.specs.Needing.{AreAsked, AreNeedsOf};
-ghost use Rattle.load_order.specs.Standing.{IsAsking, IsSafe, IsWalked, IsWalking, Stands};
+ghost use Rattle.load_requests.specs.Standing.{IsAsking, IsSafe, IsWalked, IsWalking, Stands};
 
-use crate::loading::Loading;
-use crate::requests::{Request, ask};
-use crate::stops::LoadStop;
 use load_model::{List, Name, Opener, Setting};
+use load_requests::{LoadStop, Loading, Request, ask};
 use path_text::NoMemory;
 use std::alloc::Global;
 

@@ -6,6 +6,5 @@ pub mod GnuParts
 pub mod RawSymbols
 pub mod Whole
 pub mod Unflawed
-pub mod Depths
 pub mod Linked
 pub mod LeastOdd

@@ -6,5 +6,4 @@ pub mod FoundTables
 pub mod Counts
 pub mod Listing
 pub mod ReadSymbols
-pub mod Depths
 pub mod LeastEnds

@@ -3,7 +3,6 @@
 //! System V gABI, Symbol Table and Hash Table; the GNU hash table as the GNU tools write it.
 #![tactic(auto)]
 
-mod chains;
 mod count;
 mod faults;
 mod gnu;

@@ -12,12 +12,12 @@ ghost use Rattle.sym_tables.specs.Faults.{symbol_fault_flaw};
 ghost use Rattle.sym_tables.specs.FoundTables.{IsFoundSysv, IsSysvAt, is_linked, words_table};
 ghost use Rattle.sym_tables.specs.Places.{IsSysvPlace, sysv_length, sysv_words};
 
-use crate::chains::Chains;
 use crate::faults::{SymFault, flawed};
 use crate::words::words;
 use byte_view::constants::DT_HASH;
 use byte_view::flaws::HASH_RANGE;
 use elf_headers::{Elf, word};
+use hash_chains::Chains;
 use std::alloc::{AllocError, Global};
 use std::marker::Model;
 
@@ -122,7 +122,7 @@ pub(crate) struct SysvTable {
 
 impl Model for SysvTable {
     ghost use Rattle.load_model.specs.SysvTable.{SysvTable as Table};
-    ghost use Rattle.sym_tables.specs.Depths.{AreHeadsKnown};
+    ghost use Rattle.hash_chains.specs.Depths.{AreHeadsKnown};
 
     ghost Value = { Table };
 

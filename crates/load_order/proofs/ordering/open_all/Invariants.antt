@@ -3,7 +3,7 @@ use Rattle.load_model.specs.LoadList.{Loaded, Object}
 use Rattle.load_model.specs.Opening.{OnlyGrew}
 use Rattle.load_model.specs.Runs.{start_count}
 use Rattle.load_order.specs.Ending.{IsLoadEnd, IsPhaseReady}
-use Rattle.load_order.specs.Standing.{IsSafe}
+use Rattle.load_requests.specs.Standing.{IsSafe}
 use Rattle.load_order.proofs.ordering.open_all.Given as goal
 
 abbrev pub invariant-loop-name : goal.invariant-loop-name
