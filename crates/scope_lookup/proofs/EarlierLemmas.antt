@@ -1,0 +1,74 @@
+-- The first number below a bound that passes a test.
+use Rattle.std.proofs.Common.{◌≡◌, ◌∙◌, sym, ap, refl, ℕ, zero, suc, ◌<◌, List, [], ◌∷◌, Bool, true, false, cond, ◌&&◌, ◌||◌, Option, Some, None, filter, arith, inl, inr, min}
+use Rattle.std.specs.List.{find}
+use Rattle.std.specs.Option.{option_or}
+use Rattle.std.proofs.lemmas.Bool.{cases_lt}
+use Rattle.std.proofs.lemmas.List.Folds.{find-append}
+use Rattle.load_model.specs.LoadList.{up_to}
+use Rattle.scope_lookup.specs.Firsts.{earlier}
+
+-- a test may be replaced by one that answers the same
+pub find_same : (p q : ℕ → Bool) (xs : List ℕ) → ((j : ℕ) → p j ≡ q j) → find p xs ≡ find q xs
+find_same p q [] h = refl
+find_same p q (x ∷ xs) h =
+    ap (λ b. cond b (Some x) (find p xs)) (h x) ∙ ap (λ r. cond (q x) (Some x) r) (find_same p q xs h)
+
+kept_first : (b : Bool) (p : ℕ → Bool) (x : ℕ) (ys : List ℕ) (r : Option ℕ) → find p ys ≡ r → find p (cond b (x ∷ ys) ys) ≡ cond (b && p x) (Some x) r
+kept_first true p x ys r h = ap (λ o. cond (p x) (Some x) o) h
+kept_first false p x ys r h = h
+
+pub find-filter : (t p : ℕ → Bool) (xs : List ℕ) → find p (filter t xs) ≡ find (λ j. t j && p j) xs
+find-filter t p [] = refl
+find-filter t p (x ∷ xs) = kept_first (t x) p x (filter t xs) (find (λ j. t j && p j) xs) (find-filter t p xs)
+
+find_more : (p : ℕ → Bool) (n : ℕ) → find p (up_to (suc n)) ≡ option_or (find p (up_to n)) (cond (p n) (Some n) None)
+unfolding up_to
+find_more p n = find-append p (up_to n) (n ∷ [])
+
+below_more_of : (o : Option ℕ) (b : Bool) (n k : ℕ) → ((j : ℕ) → o ≡ Some j → j < n) → option_or o (cond b (Some n) None) ≡ Some k → k < suc n
+below_more_of (Some i) b n k h e = let less : i < n = h i refl in let same : i ≡ k = cc in omega arith
+below_more_of None true n k h e = let same : n ≡ k = cc in omega arith
+below_more_of None false n k h e = cc
+
+pub find_below : (p : ℕ → Bool) (n k : ℕ) → find p (up_to n) ≡ Some k → k < n
+unfolding up_to
+find_below p zero k h = cc
+find_below p (suc n) k h = below_more_of (find p (up_to n)) (p n) n k (λ j e. find_below p n j e) (sym (find_more p n) ∙ h)
+
+either_more : (o r : Option ℕ) (n : ℕ) (b c : Bool) → ((j : ℕ) → o ≡ Some j → j < n) → ((j : ℕ) → r ≡ Some j → j < n) → earlier (option_or o (cond b (Some n) None)) (option_or r (cond c (Some n) None)) ≡ option_or (earlier o r) (cond (b || c) (Some n) None)
+either_more None None n true true h g = let e : min n n ≡ n = omega arith in ap Some e
+either_more None None n true false h g = refl
+either_more None None n false c h g = refl
+either_more None (Some k) n true c h g = let less : k < n = g k refl in let e : min n k ≡ k = omega arith in ap Some e
+either_more None (Some k) n false c h g = refl
+either_more (Some i) None n b true h g = let less : i < n = h i refl in let e : min i n ≡ i = omega arith in ap Some e
+either_more (Some i) None n b false h g = refl
+either_more (Some i) (Some k) n b c h g = refl
+
+pub earlier_either : (p q : ℕ → Bool) (n : ℕ) → earlier (find p (up_to n)) (find q (up_to n)) ≡ find (λ j. p j || q j) (up_to n)
+unfolding up_to
+earlier_either p q zero = refl
+earlier_either p q (suc n) =
+    ap (λ o. earlier o (find q (up_to (suc n)))) (find_more p n)
+    ∙ ap (earlier (option_or (find p (up_to n)) (cond (p n) (Some n) None))) (find_more q n)
+    ∙ either_more (find p (up_to n)) (find q (up_to n)) n (p n) (q n) (λ j e. find_below p n j e) (λ j e. find_below q n j e)
+    ∙ ap (λ o. option_or o (cond (p n || q n) (Some n) None)) (earlier_either p q n) ∙ sym (find_more (λ j. p j || q j) n)
+
+pub find_none : (p : ℕ → Bool) (n : ℕ) → ((j : ℕ) → j < n → p j ≡ false) → find p (up_to n) ≡ None
+unfolding up_to
+find_none p zero h = refl
+find_none p (suc n) h =
+    find_more p n ∙ ap (λ o. option_or o (cond (p n) (Some n) None)) (find_none p n (λ j less. h j (omega arith)))
+    ∙ ap (λ b. cond b (Some n) None) (h n (omega arith))
+
+pub find_first : (p : ℕ → Bool) (n k : ℕ) → k < n → p k ≡ true → ((j : ℕ) → j < k → p j ≡ false) → find p (up_to n) ≡ Some k
+unfolding up_to
+find_first p zero k less h before = absurd (omega arith)
+find_first p (suc n) k less h before =
+    find_more p n ∙ elim (cases_lt k n) [
+      | inl a ↦ ap (λ o. option_or o (cond (p n) (Some n) None)) (find_first p n k a h before)
+      | inr a ↦
+          let same : k ≡ n = omega arith in
+          ap (λ o. option_or o (cond (p n) (Some n) None)) (find_none p n (λ j l. before j (omega arith)))
+          ∙ ap (λ b. cond b (Some n) None) (ap p (sym same) ∙ h) ∙ ap Some (sym same)
+    ]

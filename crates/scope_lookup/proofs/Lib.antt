@@ -1,0 +1,3 @@
+pub mod EarlierLemmas
+pub mod ScopeLemmas
+pub mod AskingLemmas

@@ -1,0 +1,20 @@
+-- The first of several objects.
+use Rattle.std.specs.Prelude.{ℕ, List, [], Bool, ◌==◌, ◌&&◌, Option, Some, None, min, slice_get, zip}
+use Rattle.std.specs.Option.{unwrap_or}
+use Rattle.std.specs.Str.{bytes_eq}
+use Rattle.load_model.specs.declared.runs.Run.{Run}
+
+-- The lesser of two numbers, where there are any.
+abbrev pub earlier : Option ℕ → Option ℕ → Option ℕ
+earlier None other = other
+earlier (Some i) None = Some i
+earlier (Some i) (Some j) = Some (min i j)
+
+-- A request, with its target, is of this name and went to this object.
+abbrev pub goes_to : List ℕ → ℕ → (List ℕ × ℕ) → Bool
+goes_to name j asked = bytes_eq asked.0 name && (asked.1 == j)
+
+-- The names that an object asks for, each with the object that it went to.
+abbrev pub requests_in : List (List (List ℕ)) → Run → ℕ → List (List ℕ × ℕ)
+requests_in asked run j =
+    zip (unwrap_or (slice_get asked j) []) (unwrap_or (slice_get run.targets j) [])

@@ -1,0 +1,18 @@
+//! Where references are looked up, what they bind to, and whether the versions that objects ask for
+//! are there.
+//!
+//! System V gABI, Shared Object Dependencies; Linux Standard Base, Symbol Versioning. Scopes and
+//! bindings are said in `specs/Scopes.antt` and `specs/Bindings.antt` of `load_model`, asks in its
+//! `specs/VersionCheck.antt`.
+#![tactic(auto)]
+
+mod binding;
+mod checking;
+mod faces;
+mod files;
+mod lookup;
+mod stops;
+
+pub use binding::bind;
+pub use checking::check_versions;
+pub use stops::VersionStop;
