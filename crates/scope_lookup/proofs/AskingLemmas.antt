@@ -1,5 +1,5 @@
 -- The file of an ask, and the first ask that is not met.
-use Rattle.std.proofs.Common.{◌≡◌, ◌∙◌, sym, ap, refl, subst, ℕ, zero, suc, ◌+◌, ◌<◌, List, [], ◌∷◌, ◌++◌, Bool, true, false, cond, ◌==◌, ◌&&◌, ◌||◌, Option, Some, None, IfSome, filter, map, slice_get, get_or, take, length, zip, nat_le, arith, inl, inr, min}
+use Rattle.std.proofs.Common.{◌≡◌, ◌∙◌, sym, ap, refl, subst, ℕ, zero, suc, ◌+◌, ◌<◌, ◌≤◌, List, [], ◌∷◌, ◌++◌, Bool, true, false, cond, ◌==◌, ◌&&◌, ◌||◌, Option, Some, None, IfSome, filter, map, slice_get, get_or, take, length, zip, nat_le, arith, inl, inr, min}
 use Rattle.std.specs.List.{enumerate_from, find, flat_map, list_any}
 use Rattle.std.specs.Option.{option_and_then, option_map, option_or, unwrap_or}
 use Rattle.std.specs.Str.{bytes_eq}
@@ -14,7 +14,7 @@ use Rattle.answers.specs.Answers.{Names}
 use Rattle.answers.specs.First.{first_some}
 use Rattle.load_model.specs.LoadList.{is_named, up_to}
 use Rattle.load_model.specs.Runs.{IsRunOver, face_at}
-use Rattle.load_model.specs.VersionCheck.{FileUnloaded, Unmet, UnmetAsk, VersionLacking, asked_by, asks_in, defs_in, first_unmet, has_defined, is_known_by, loaded_by, needs_in, needs_to, phase_at, soname_in, unmet, unmet_at, unmet_by, unmet_of, version_file_of}
+use Rattle.load_model.specs.VersionCheck.{FileUnloaded, Unmet, UnmetAsk, VersionLacking, asked_by, asks_in, defs_in, first_unmet, has_defined, is_known_by, loaded_by, needs_in, needs_to, phase_at, soname_in, VersionsMet, unmet, unmet_at, unmet_by, unmet_of, version_file_of}
 use Rattle.load_model.specs.declared.asks.Ask.{Ask}
 use Rattle.load_model.specs.declared.faces.Face.{Face}
 use Rattle.load_model.specs.declared.runs.Obj.{Obj}
@@ -361,6 +361,64 @@ module _ (faces : List Face) (run : Run) where
             let one : a ≡ x = cc in
             ap (unmet faces run j) (sym one) ∙ here
       ]
+
+-- none is unmet exactly where the versions are met
+none_both : {A : Type 0} (o r : Option A) → option_or o r ≡ None → (o ≡ None) × (r ≡ None)
+none_both None r h = (refl, h)
+none_both (Some x) r h = cc
+
+head_none : (j i : ℕ) (o : Option Unmet) (rest : List (Option UnmetAsk)) → first_some (option_map (λ why. record { obj = j; ask = i; why = why }) o ∷ rest) ≡ None → (o ≡ None) × (first_some rest ≡ None)
+head_none j i None rest h = (refl, h)
+head_none j i (Some why) rest h = cc
+
+module _ (faces : List Face) (run : Run) where
+  each_met : (j i k : ℕ) (asks : List Ask) (a : Ask) → unmet_from faces run j i asks ≡ None → slice_get asks k ≡ Some a → unmet faces run j a ≡ None
+  each_met j i k [] a h g = cc
+  each_met j i zero (x ∷ asks) a h g =
+      let same : x ≡ a = cc in
+      ap (unmet faces run j) (sym same)
+      ∙ (head_none j i (unmet faces run j x) (map (λ numbered. unmet_at faces run j numbered.0 numbered.1) (enumerate_from (i + 1) asks)) h).0
+  each_met j i (suc k) (x ∷ asks) a h g =
+      each_met j (i + 1) k asks a (head_none j i (unmet faces run j x) (map (λ numbered. unmet_at faces run j numbered.0 numbered.1) (enumerate_from (i + 1) asks)) h).1 g
+
+  none_of : (n j : ℕ) → j < n → unmet_up_to faces run n ≡ None → first_some (unmet_of faces run j) ≡ None
+  none_of zero j less h = absurd (omega arith)
+  none_of (suc n) j less h =
+      let both = none_both (unmet_up_to faces run n) (first_some (unmet_of faces run n)) (sym (unmet_more faces run n) ∙ h) in
+      elim (cases_lt j n) [
+        | inl a ↦ none_of n j a both.0
+        | inr a ↦ let same : j ≡ n = omega arith in ap (λ k. first_some (unmet_of faces run k)) same ∙ both.1
+      ]
+
+  none_past : (j : ℕ) (face : Face) → length run.objs ≤ j → face_at faces run j ≡ Some face → ⊥
+  none_past j face past at =
+      let none : face_at faces run j ≡ None = ap (option_and_then (λ (x : Obj). slice_get faces x.face)) (slice_get_past run.objs j past) in
+      cc
+
+  pub all_are_met : first_unmet faces run ≡ None → VersionsMet faces run
+  unfolding first_unmet
+  all_are_met h =
+      record {
+        met = λ j k face ask at g. elim (cases_lt j (length run.objs)) [
+          | inl less ↦ each_met j 0 k face.asks ask (sym (ap (λ o. unmet_from faces run j 0 (asks_in o)) at) ∙ none_of (length run.objs) j less h) g
+          | inr past ↦ absurd (none_past j face past at)
+        ];
+      }
+
+  object_by : (j : ℕ) (o : Option Face) → face_at faces run j ≡ o → VersionsMet faces run → first_some (unmet_of faces run j) ≡ None
+  object_by j None at v = ap (λ o. unmet_from faces run j 0 (asks_in o)) at
+  object_by j (Some face) at v = object_met faces run j face at (λ k a less g. v.met j k face a at g)
+
+  none_up_to : (n : ℕ) → VersionsMet faces run → unmet_up_to faces run n ≡ None
+  unfolding up_to
+  none_up_to zero v = refl
+  none_up_to (suc n) v =
+      unmet_more faces run n ∙ ap (λ o. option_or o (first_some (unmet_of faces run n))) (none_up_to n v) ∙ object_by n (face_at faces run n) refl v
+
+  pub not_all_met : (stop : VersionStop) → Names (unmet_ask stop) (first_unmet faces run) → VersionsMet faces run → ⊥
+  unfolding first_unmet
+  not_all_met (VersionFileUnloaded j k) h v = let none = none_up_to (length run.objs) v in cc
+  not_all_met (UnsatisfiedVersion j k) h v = let none = none_up_to (length run.objs) v in cc
 
 -- where the loops of the file of an ask begin and end
 pub nothing_asked : (file : List ℕ) (xs : List ℕ) → None ≡ find (λ j. list_any (goes_to file j) []) xs

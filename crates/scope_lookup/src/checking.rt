@@ -3,14 +3,14 @@
 //! Linux Standard Base, Symbol Versioning. Asks are said in `specs/VersionCheck.antt` of
 //! `load_model`, the answer in `specs/Asking.antt`.
 
-ghost use Rattle.std.specs.Prelude.{◌≡◌, ◌<◌, Some, length, slice_get};
+ghost use Rattle.std.specs.Prelude.{◌≡◌, ◌<◌, OnErr, OnOk, length};
 ghost use Rattle.std.specs.List.{list_any};
 ghost use Rattle.std.specs.Str.{bytes_eq};
 ghost use Rattle.answers.specs.Answers.{TellsBy};
 ghost use Rattle.answers.specs.First.{first_some};
 ghost use Rattle.load_model.specs.Opening.{AreFew};
 ghost use Rattle.load_model.specs.Runs.{IsRunOver};
-ghost use Rattle.load_model.specs.VersionCheck.{first_unmet, has_defined, unmet_at, unmet_of};
+ghost use Rattle.load_model.specs.VersionCheck.{VersionsMet, first_unmet, has_defined, unmet_at, unmet_of};
 ghost use Rattle.scope_lookup.specs.Asking.{asked_names, unmet_ask};
 
 use crate::faces::face_of;
@@ -31,7 +31,9 @@ pub fn check_versions(
     requires run { IsRunOver faces.now run.now }
     requires few { AreFew faces.now }
     requires asked { asked.now ≡ asked_names faces.now run.now }
-    ensures { TellsBy unmet_ask result (first_unmet faces.now run.now) }
+    ensures answer { TellsBy unmet_ask result (first_unmet faces.now run.now) }
+    ensures met { OnOk result (VersionsMet faces.now run.now) }
+    ensures unmet { OnErr result (¬ VersionsMet faces.now run.now) }
 {
     for obj in 0..run.objs.as_slice().len() as u32 {
         if let Err(stop) = check_object(faces, run, asked, obj) {
