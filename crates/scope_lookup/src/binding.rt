@@ -3,8 +3,7 @@
 //! System V gABI, Symbol Table. Bindings are said in `specs/Bindings.antt` of `load_model`.
 
 ghost use Rattle.std.specs.Prelude.{◌≡◌, ◌<◌, IsSome, length, map};
-ghost use Rattle.std.specs.Option.{option_copied};
-ghost use Rattle.load_model.specs.Bindings.{binds_itself, bound_to, is_copy, is_own, offered_by, symbol_at, wanted_version};
+ghost use Rattle.load_model.specs.Bindings.{binds_itself, bound_to, is_copy, is_own, offered_by, symbol_at};
 ghost use Rattle.load_model.specs.Opening.{AreFew};
 ghost use Rattle.load_model.specs.Runs.{IsRunOver};
 

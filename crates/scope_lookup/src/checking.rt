@@ -10,13 +10,13 @@ ghost use Rattle.answers.specs.Answers.{TellsBy};
 ghost use Rattle.answers.specs.First.{first_some};
 ghost use Rattle.load_model.specs.Opening.{AreFew};
 ghost use Rattle.load_model.specs.Runs.{IsRunOver};
-ghost use Rattle.load_model.specs.VersionCheck.{VersionsMet, first_unmet, has_defined, unmet_at, unmet_of};
+ghost use Rattle.load_model.specs.VersionCheck.{VersionsMet, first_unmet, has_defined, unmet_of};
 ghost use Rattle.scope_lookup.specs.Asking.{asked_names, unmet_ask};
 
 use crate::faces::face_of;
 use crate::files::version_file;
 use crate::stops::VersionStop;
-use load_model::{Ask, Face, List, Name, Run};
+use load_model::{Face, List, Name, Run};
 
 /// Whether the versions that the objects of a run ask for are there: else the first ask, by object
 /// and place, that is not met.
