@@ -11,10 +11,10 @@ ghost use Rattle.appdir_cli.specs.Steps.{IsStepAnswer};
 ghost use Rattle.appdir_cli.specs.Stops.{stop_of_load, stop_of_open, stop_of_search};
 
 use crate::answer::Stop;
-use crate::opening::{FaceTable, FileOpener};
+use crate::opening::FileOpener;
 use crate::refusal::Refusal;
 use byte_view::constants::EM_X86_64;
-use load_model::{List, LoadRefusal, OpenFault, Run, Setting};
+use load_model::{FaceTable, List, LoadRefusal, OpenFault, Run, Setting};
 use load_order::{LoadStop, load};
 use path_text::{Abs, NoMemory, PathFault};
 use ports::Tree;

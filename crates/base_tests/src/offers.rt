@@ -64,19 +64,10 @@ fn object(alloc: Global, versioned: bool, rows: &[Row]) -> Result<Face, NoMemory
     for row in rows {
         syms.push(symbol(alloc, *row)?)?;
     }
-    Ok(Face {
-        machine: EM_X86_64,
-        interp: None,
-        soname: None,
-        needs: List::new(alloc),
-        rpath: None,
-        runpath: None,
-        symbolic: false,
-        syms,
-        versioned,
-        defs: List::new(alloc),
-        asks: List::new(alloc),
-    })
+    let mut face = Face::empty(alloc, EM_X86_64);
+    face.syms = syms;
+    face.versioned = versioned;
+    Ok(face)
 }
 
 /// What a reference to `g` gets in an object of few symbols.

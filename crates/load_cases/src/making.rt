@@ -116,7 +116,7 @@ fn add_library(
     is_last: bool,
 ) -> Result<(), Fault> {
     let path = format!(in alloc; "/lib64/l{number}.so")?;
-    let mut face = empty_face(alloc);
+    let mut face = Face::empty(alloc, EM_X86_64);
     if !is_last {
         let next = numbered(alloc, number.saturating_add(1))?;
         face.needs.push(Name::from_bytes(alloc, next.as_bytes())?)?;
@@ -137,30 +137,12 @@ fn numbered(alloc: Global, number: u32) -> Result<String, Fault> {
 fn face_of(alloc: Global, file: &File<'_>) -> Result<Face, Fault>
     ensures { IfOk result (λ face. IsFew face) }
 {
-    let mut face = empty_face(alloc);
+    let mut face = Face::empty(alloc, EM_X86_64);
     face.soname = name_if_any(alloc, file.soname)?;
     face.needs = needs_of(alloc, file)?;
     face.rpath = name_if_any(alloc, file.rpath)?;
     face.runpath = name_if_any(alloc, file.runpath)?;
     Ok(face)
-}
-
-fn empty_face(alloc: Global) -> Face
-    ensures { IsFew result }
-{
-    Face {
-        machine: EM_X86_64,
-        interp: None,
-        soname: None,
-        needs: List::new(alloc),
-        rpath: None,
-        runpath: None,
-        symbolic: false,
-        syms: List::new(alloc),
-        versioned: false,
-        defs: List::new(alloc),
-        asks: List::new(alloc),
-    }
 }
 
 fn needs_of(alloc: Global, file: &File<'_>) -> Result<List<Name>, Fault> {

@@ -1,15 +1,13 @@
 //! An opener over files in memory, which tells nothing of what it has.
 
-ghost use Rattle.std.specs.Prelude.{◌≡◌, ◌<◌, ◌^◌, ◌∷◌, [], ◌++◌, OnOk, OnErr, length};
-ghost use Rattle.load_model.specs.Opening.{AreFew, IsFew};
+ghost use Rattle.load_model.specs.Opening.{IsFew};
 
 use crate::case::Odd;
 use byte_view::constants::EM_X86_64;
 use byte_view::flaws::NOT_ELF;
-use load_model::{Face, Flaw, List, Name, NoMemory, OpenFault, Opened, Opener};
+use load_model::{Face, FaceTable, Flaw, List, Name, NoMemory, OpenFault, Opened, Opener};
 use path_text::Abs;
 use std::alloc::Global;
-use std::marker::Model;
 
 /// The flaw of a damaged file.
 const FLAW: Flaw = Flaw {
@@ -26,49 +24,11 @@ pub struct Placed {
     pub odd: Option<Odd>,
 }
 
-/// Faces, as many as numbers of 32 bits count.
-#[derive(Drop)]
-struct Faces {
-    faces: List<Face>,
-}
-
-impl Model for Faces {
-    ghost use Rattle.std.specs.Prelude.{List as Sequence};
-    ghost use Rattle.load_model.specs.declared.faces.Face.{Face};
-    ghost use Rattle.load_model.specs.Opening.{AreFew};
-
-    ghost Value = { Sequence Face };
-
-    ghost view = { λ table. table.faces };
-
-    ghost invariant = { λ table. AreFew table.faces };
-}
-
-impl Faces {
-    fn as_slice(&self) -> &[Face]
-        ensures faces { result.now ≡ self.now }
-        ensures few { AreFew self.now }
-    {
-        self.faces.as_slice()
-    }
-
-    fn add(&mut self, face: Face) -> Result<(), NoMemory>
-        requires { IsFew face }
-        ensures ok { OnOk result (self.new ≡ self.old ++ face ∷ []) }
-        ensures err { OnErr result (self.new ≡ self.old) }
-    {
-        if self.faces.as_slice().len() as u64 + 1 >= 1 << 32 {
-            return Err(NoMemory);
-        }
-        self.faces.push(face)
-    }
-}
-
 /// An opener of these files: each has its face at its own place.
 #[derive(Drop)]
 pub struct FileOpener {
     files: List<Placed>,
-    faces: Faces,
+    faces: FaceTable,
 }
 
 impl FileOpener {
@@ -76,9 +36,7 @@ impl FileOpener {
     pub fn new(alloc: Global) -> Self {
         FileOpener {
             files: List::new(alloc),
-            faces: Faces {
-                faces: List::new(alloc),
-            },
+            faces: FaceTable::new(alloc),
         }
     }
 
@@ -87,7 +45,8 @@ impl FileOpener {
         requires { IsFew face }
     {
         self.files.push(file)?;
-        self.faces.add(face)
+        self.faces.add(face)?;
+        Ok(())
     }
 }
 

@@ -4,6 +4,7 @@
 mod asks;
 mod bytes;
 mod escaping;
+mod face_tables;
 mod faces;
 mod flaw_laws;
 mod laws;
@@ -23,6 +24,7 @@ pub use asks::Ask;
 pub use byte_view::Flaw;
 pub use bytes::{Name, Text};
 pub use escaping::{escape, escape_is_field};
+pub use face_tables::FaceTable;
 pub use faces::Face;
 pub use flaw_laws::each_flaw_is_named;
 pub use laws::{
