@@ -1,6 +1,6 @@
 -- What a reference binds to: its own symbol by visibility, or the first offer of its scope
 -- (System V gABI, Symbol Table and Shared Object Dependencies).
-use Rattle.std.specs.Prelude.{ℕ, List, [], ◌∷◌, Bool, true, false, cond, not, ◌==◌, ◌&&◌, ◌||◌, Option, Some, None, drop, filter, length, map, slice_get}
+use Rattle.std.specs.Prelude.{ℕ, List, [], ◌∷◌, Bool, true, false, cond, not, ◌==◌, ◌&&◌, ◌||◌, All, IfSome, IsSome, Option, Some, None, drop, filter, length, map, slice_get}
 use Rattle.std.specs.List.{enumerate_from, flat_map}
 use Rattle.std.specs.Option.{option_and_then, option_map}
 use Rattle.answers.specs.First.{first_some}
@@ -107,3 +107,9 @@ binds_of_object faces run j =
 -- The bindings of all references, by object, symbol and class.
 unfoldable pub all_binds : List Face → Run → List Bind
 all_binds faces run = flat_map (binds_of_object faces run) (up_to (length run.objs))
+
+-- The numbers of a binding are in range: its reference is a symbol of an object of the run, and so
+-- is its definition, where it has one.
+pub record IsBindOver (faces : List Face) (run : Run) (bind : Bind) : Type 0 where
+  pub reference : IsSome (symbol_at faces run bind.obj bind.sym)
+  pub target : IfSome bind.to (λ d. IsSome (symbol_at faces run d.obj d.sym))

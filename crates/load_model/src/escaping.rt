@@ -12,17 +12,27 @@ use std::alloc::Global;
 pub fn escape(alloc: Global, bytes: &[u8]) -> Result<Text, NoMemory>
     ensures { IfOk result (λ text. text ≡ escaped bytes.now) }
 {
+    let mut line = Vec::new(alloc);
+    escape_onto(&mut line, bytes)?;
+    Ok(Text::from_vec(line))
+}
+
+/// Adds the text of a name or a path at the end of a line.
+pub fn escape_onto(line: &mut Vec<u8>, bytes: &[u8]) -> Result<(), NoMemory>
+    ensures { OnOk result (line.new.items ≡ line.old.items ++ escaped bytes.now) }
+{
     if bytes.is_empty() {
-        return Text::from_bytes(alloc, b"\\e");
+        line.extend_from_slice(b"\\e")?;
+        return Ok(());
     }
     if bytes == b"-".as_slice() {
-        return Text::from_bytes(alloc, b"\\x2d");
+        line.extend_from_slice(b"\\x2d")?;
+        return Ok(());
     }
-    let mut line = Vec::new(alloc);
     for byte in bytes {
-        push_escaped(&mut line, *byte)?;
+        push_escaped(line, *byte)?;
     }
-    Ok(Text::from_vec(line))
+    Ok(())
 }
 
 /// What is escaped can stand as a field of a line, and tells the bytes.

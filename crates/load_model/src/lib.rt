@@ -23,7 +23,7 @@ mod world;
 pub use asks::Ask;
 pub use byte_view::Flaw;
 pub use bytes::{Name, Text};
-pub use escaping::{escape, escape_is_field};
+pub use escaping::{escape, escape_is_field, escape_onto};
 pub use face_tables::FaceTable;
 pub use faces::Face;
 pub use flaw_laws::each_flaw_is_named;
