@@ -165,6 +165,8 @@ pub const SHN_ABS: u16 = 0xfff1;
 /// The size of a symbol.
 pub const SYM_SIZE: u64 = 24;
 
+/// A symbol that other objects do not see.
+pub const STB_LOCAL: u8 = 0;
 /// A symbol that other objects see.
 pub const STB_GLOBAL: u8 = 1;
 /// A symbol that other objects see, and that may be missing.

@@ -2,16 +2,14 @@
 //! refusal that is otherwise than the case wants.
 #![tactic(auto)]
 
-mod case;
 mod lines;
-mod making;
-mod opening;
 
-use case::{Case, name_of};
-use case_rows::{Fault, Row, text_of};
+use case_rows::Fault;
 use lines::{run_text, stop_text};
+use load_files::{
+    Case, cases_of, name_of, names_of, opener_of, program_of, setting_of, wanted_text,
+};
 use load_order::load;
-use making::{names_of, opener_of, program_of, setting_of};
 use std::alloc::Global;
 use std::io;
 use toml::{Table, Value};
@@ -29,10 +27,6 @@ fn run_table(rt: &HostRuntime, table: &Table) -> io::Result<()> {
         Ok(cases) => run_cases(rt, cases),
         Err(fault) => println!(rt; "no document of cases: {fault}"),
     }
-}
-
-fn cases_of(table: &Table) -> Result<&[Value], Fault> {
-    Row::of_table(table, &["case"])?.list("case")
 }
 
 fn run_cases(rt: &HostRuntime, cases: &[Value]) -> io::Result<()> {
@@ -78,13 +72,4 @@ fn answer(alloc: Global, case: &Case<'_>) -> Result<Vec<u8>, Fault> {
         Ok(run) => run_text(alloc, &run),
         Err(stop) => stop_text(alloc, &stop),
     }
-}
-
-fn wanted_text(alloc: Global, case: &Case<'_>) -> Result<Vec<u8>, Fault> {
-    let mut text = Vec::new(alloc);
-    for line in case.wants {
-        text.extend_from_slice(text_of(line)?.as_bytes())?;
-        text.push(b'\n')?;
-    }
-    Ok(text)
 }

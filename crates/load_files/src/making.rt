@@ -4,8 +4,10 @@ ghost use Rattle.std.specs.Prelude.{◌≡◌, IfOk};
 ghost use Rattle.byte_view.specs.declared.constants.TheConstants.{EM_X86_64};
 ghost use Rattle.load_model.specs.Opening.{IsFew};
 
-use crate::case::{Case, File};
+use crate::case::Case;
+use crate::files::File;
 use crate::opening::{FileOpener, Placed};
+use crate::symbols::{asks_of, symbols_of};
 use byte_view::constants::EM_X86_64;
 use case_rows::{Fault, decoded, text_of};
 use load_model::{Face, List, Name, Setting};
@@ -56,7 +58,7 @@ pub fn names_of(alloc: Global, texts: &[Value]) -> Result<List<Name>, Fault> {
 }
 
 /// The bytes of a text, or those that its digits say.
-fn name_of(alloc: Global, text: &str) -> Result<Name, Fault> {
+pub fn name_of(alloc: Global, text: &str) -> Result<Name, Fault> {
     match text.strip_prefix(HEX) {
         Some(digits) => {
             let bytes = decoded(alloc, digits)?;
@@ -133,16 +135,35 @@ fn numbered(alloc: Global, number: u32) -> Result<String, Fault> {
     Ok(format!(in alloc; "l{number}.so")?)
 }
 
-/// What a loader sees of a file; what it does not look at to load is empty.
+/// What a loader sees of a file.
 fn face_of(alloc: Global, file: &File<'_>) -> Result<Face, Fault>
     ensures { IfOk result (λ face. IsFew face) }
 {
     let mut face = Face::empty(alloc, EM_X86_64);
+    set_names(alloc, &mut face, file)?;
+    set_symbols(alloc, &mut face, file)?;
+    let most = face.syms.as_slice().len().max(face.asks.as_slice().len());
+    if most as u64 >= 1 << 32 {
+        return Err(Fault::Field("count"));
+    }
+    Ok(face)
+}
+
+fn set_names(alloc: Global, face: &mut Face, file: &File<'_>) -> Result<(), Fault> {
     face.soname = name_if_any(alloc, file.soname)?;
     face.needs = needs_of(alloc, file)?;
     face.rpath = name_if_any(alloc, file.rpath)?;
     face.runpath = name_if_any(alloc, file.runpath)?;
-    Ok(face)
+    Ok(())
+}
+
+fn set_symbols(alloc: Global, face: &mut Face, file: &File<'_>) -> Result<(), Fault> {
+    face.symbolic = file.symbolic;
+    face.versioned = file.versioned;
+    face.syms = symbols_of(alloc, file.symbols)?;
+    face.defs = names_of(alloc, file.defs)?;
+    face.asks = asks_of(alloc, file.asks)?;
+    Ok(())
 }
 
 fn needs_of(alloc: Global, file: &File<'_>) -> Result<List<Name>, Fault> {
@@ -152,4 +173,14 @@ fn needs_of(alloc: Global, file: &File<'_>) -> Result<List<Name>, Fault> {
         needs.push(Name::from_bytes(alloc, name.as_bytes())?)?;
     }
     Ok(needs)
+}
+
+/// The lines that a case wants.
+pub fn wanted_text(alloc: Global, case: &Case<'_>) -> Result<Vec<u8>, Fault> {
+    let mut text = Vec::new(alloc);
+    for line in case.wants {
+        text.extend_from_slice(text_of(line)?.as_bytes())?;
+        text.push(b'\n')?;
+    }
+    Ok(text)
 }

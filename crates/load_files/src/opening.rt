@@ -2,7 +2,7 @@
 
 ghost use Rattle.load_model.specs.Opening.{IsFew};
 
-use crate::case::Odd;
+use crate::files::Odd;
 use byte_view::constants::EM_X86_64;
 use byte_view::flaws::NOT_ELF;
 use load_model::{Face, FaceTable, Flaw, List, Name, NoMemory, OpenFault, Opened, Opener};
