@@ -1,0 +1,140 @@
+//! What all references of a run bind to.
+//!
+//! System V gABI, Symbol Table and Shared Object Dependencies. Bindings are said in
+//! `specs/Bindings.antt` of `load_model`.
+
+ghost use Rattle.std.specs.Prelude.{◌≡◌, ◌<◌, ◌∷◌, ◌++◌, [], All, IfOk, IsSome, OnOk, Some, length, map};
+ghost use Rattle.load_model.specs.Bindings.{IsBindOver, all_binds, bind_of, binds_of_object, may_copy, offered_by, symbol_at};
+ghost use Rattle.load_model.specs.Opening.{AreFew};
+ghost use Rattle.load_model.specs.Runs.{IsRunOver};
+ghost use Rattle.load_model.specs.SymbolWords.{is_shared};
+ghost use Rattle.loader_replay.specs.Binding.{binds_at, symbol_count};
+
+use crate::faces::face_of;
+use byte_view::constants::{STB_GLOBAL, STB_GNU_UNIQUE, STB_WEAK, STT_OBJECT};
+use load_model::{Bind, Class, Face, List, Offers, Run, Sym};
+use path_text::NoMemory;
+use scope_lookup::bind;
+use std::alloc::Global;
+
+/// What the references of a run bind to, by object, symbol and class.
+///
+/// `index` tells of each face what binds to it. Asks it once for each reference and object of its
+/// scope, and takes memory for the list alone.
+pub fn binds_of<F: Offers>(
+    alloc: Global,
+    faces: &[Face],
+    index: &[F],
+    run: &Run,
+) -> Result<List<Bind>, NoMemory>
+    requires run { IsRunOver faces.now run.now }
+    requires few { AreFew faces.now }
+    requires index { map F.offered index.now ≡ map offered_by faces.now }
+    ensures binds { IfOk result (λ binds. binds ≡ all_binds faces.now run.now) }
+    ensures over { IfOk result (λ binds. All (IsBindOver faces.now run.now) binds) }
+{
+    let mut binds = List::new(alloc);
+    for obj in 0..run.objs.as_slice().len() as u32 {
+        add_object(faces, index, run, obj, &mut binds)?;
+    }
+    Ok(binds)
+}
+
+/// Adds what the references of an object bind to.
+fn add_object<F: Offers>(
+    faces: &[Face],
+    index: &[F],
+    run: &Run,
+    obj: u32,
+    binds: &mut List<Bind>,
+) -> Result<(), NoMemory>
+    requires run { IsRunOver faces.now run.now }
+    requires few { AreFew faces.now }
+    requires index { map F.offered index.now ≡ map offered_by faces.now }
+    requires obj { obj < length run.now.objs }
+    ensures { OnOk result (binds.new ≡ binds.old ++ binds_of_object faces.now run.now obj) }
+{
+    for sym in 1..symbol_count(faces, run, obj) {
+        add_symbol(faces, index, run, obj, sym, binds)?;
+    }
+    Ok(())
+}
+
+/// Adds what a symbol binds to in each class in which it is a reference.
+fn add_symbol<F: Offers>(
+    faces: &[Face],
+    index: &[F],
+    run: &Run,
+    obj: u32,
+    sym: u32,
+    binds: &mut List<Bind>,
+) -> Result<(), NoMemory>
+    requires run { IsRunOver faces.now run.now }
+    requires few { AreFew faces.now }
+    requires index { map F.offered index.now ≡ map offered_by faces.now }
+    requires obj { obj < length run.now.objs }
+    requires sym { IsSome (symbol_at faces.now run.now obj sym) }
+    ensures { OnOk result (binds.new ≡ binds.old ++ binds_at faces.now run.now obj sym) }
+{
+    let symbol = &face_of(faces, run, obj).syms.as_slice()[sym as usize];
+    if is_shared(symbol.binding) {
+        add_reference(faces, index, run, obj, sym, Class::Call, binds)?;
+        if may_copy(obj, symbol) {
+            add_reference(faces, index, run, obj, sym, Class::Copy, binds)?;
+        }
+        add_reference(faces, index, run, obj, sym, Class::Plain, binds)?;
+    }
+    Ok(())
+}
+
+/// Adds what a symbol binds to in a class.
+fn add_reference<F: Offers>(
+    faces: &[Face],
+    index: &[F],
+    run: &Run,
+    obj: u32,
+    sym: u32,
+    class: Class,
+    binds: &mut List<Bind>,
+) -> Result<(), NoMemory>
+    requires run { IsRunOver faces.now run.now }
+    requires few { AreFew faces.now }
+    requires index { map F.offered index.now ≡ map offered_by faces.now }
+    requires obj { obj < length run.now.objs }
+    requires sym { IsSome (symbol_at faces.now run.now obj sym) }
+    ensures { OnOk result (binds.new
+        ≡ binds.old ++ bind_of faces.now run.now obj sym class ∷ []) }
+{
+    let to = bind(faces, index, run, obj, sym, class);
+    binds.push(Bind {
+        obj,
+        sym,
+        class,
+        to,
+    })
+}
+
+/// How many symbols an object has.
+fn symbol_count(faces: &[Face], run: &Run, obj: u32) -> u32
+    requires run { IsRunOver faces.now run.now }
+    requires few { AreFew faces.now }
+    requires obj { obj < length run.now.objs }
+    ensures { result ≡ symbol_count faces.now run.now obj }
+{
+    face_of(faces, run, obj).syms.as_slice().len() as u32
+}
+
+/// Whether other objects see symbols of this binding.
+fn is_shared(binding: u8) -> bool
+    ensures { result ≡ is_shared binding }
+{
+    matches!(binding, STB_GLOBAL | STB_WEAK | STB_GNU_UNIQUE)
+}
+
+/// Whether a symbol of this object may be a copy of another object's: a variable that the program
+/// defines.
+fn may_copy(obj: u32, symbol: &Sym) -> bool
+    ensures { result ≡ may_copy obj symbol.now }
+{
+    obj == 0 && symbol.defined && symbol.kind == STT_OBJECT
+}
