@@ -65,5 +65,5 @@ IsReplayAnswer setting before after start opens (Err stop) =
 -- The run, with the bindings of all its references.
 pub record IsBound (faces : List Face) (run : Run) (replay : Replay) : Type 0 where
   pub run_is : replay.run ≡ run
-  pub binds : replay.binds ≡ all_binds faces run
-  pub over : All (IsBindOver faces run) replay.binds
+  pub binds : replay.binds ≡ all_binds faces replay.run
+  pub over : All (IsBindOver faces replay.run) replay.binds
