@@ -3,12 +3,11 @@
 use Rattle.std.proofs.Common.{◌≡◌, ◌∙◌, sym, ap, refl, subst, ℕ, zero, suc, ◌+◌, ◌<◌, ◌⊎◌, inl, inr, List, [], ◌∷◌, ◌++◌, Option, Some, None, IfSome, All, map, slice_get, get_or, length, arith}
 use Rattle.std.specs.List.{enumerate_from, flat_map}
 use Rattle.std.specs.Option.{option_map}
-use Rattle.std.proofs.lemmas.List.{append-nil, map-append}
+use Rattle.std.proofs.lemmas.List.{map-append}
 use Rattle.std.proofs.lemmas.Option.{slice_get_read, slice_get_within}
-use Rattle.answers.specs.Answers.{Names}
 use Rattle.answers.specs.First.{first_some}
 use Rattle.load_model.specs.LoadList.{up_to}
-use Rattle.load_model.specs.Replays.{IsRefusedAsk, refusal_by}
+use Rattle.load_model.specs.Replays.{refusal_by}
 use Rattle.load_model.specs.Runs.{face_at}
 use Rattle.load_model.specs.VersionCheck.{Unmet, UnmetAsk, asks_in, first_unmet, needs_in, unmet, unmet_at, unmet_of}
 use Rattle.load_model.specs.declared.asks.Ask.{Ask}
@@ -21,9 +20,7 @@ use Rattle.loader_replay.specs.Answering.{replay_refusal_of}
 use Rattle.loader_replay.specs.Checking.{IsStopOf, NamesAsk, RefusesFirst}
 use Rattle.loader_replay.specs.declared.stops.ReplayStop.{ReplayStop}
 use Rattle.loader_replay.proofs.BindingLemmas.{all_flat, all_map, numbered}
-use Rattle.scope_lookup.specs.Asking.{asked_names, opened_by, unmet_ask}
-use Rattle.scope_lookup.specs.declared.stops.VersionStop.{VersionStop}
-use Rattle.scope_lookup.specs.declared.stops.VersionStop.TheVariants.{VersionFileUnloaded, UnsatisfiedVersion}
+use Rattle.scope_lookup.specs.Asking.{asked_names, opened_by}
 
 -- numbers up to a bound
 split_last : {X : Type 0} (xs : List X) (y : X) (i : ℕ) (x : X) → slice_get (xs ++ y ∷ []) i ≡ Some x → (slice_get xs i ≡ Some x) ⊎ (x ≡ y)
@@ -68,16 +65,6 @@ module _ (faces : List Face) (run : Run) where
   pub names_all : (n : ℕ) (asked : List (List (List ℕ))) → n ≡ length run.objs → asked ≡ names_up_to n → asked ≡ asked_names faces run
   unfolding asked_names
   names_all n asked same h = h ∙ ap names_up_to same
-
-  pub names_of_program : (j : ℕ) (face : Face) (old names opens : List (List ℕ)) → face_at faces run j ≡ Some face → j ≡ 0 → old ≡ face.needs → opens ≡ run.opens → names ≡ old ++ opens → names ≡ names_by j
-  names_of_program zero face old names opens at zero_is is same e =
-      e ∙ ap (λ xs. xs ++ opens) is ∙ ap (λ xs. face.needs ++ xs) same ∙ ap (λ o. needs_in o ++ run.opens) (sym at)
-  names_of_program (suc j) face old names opens at zero_is is same e = absurd (omega arith)
-
-  pub names_of_library : (j : ℕ) (face : Face) (names : List (List ℕ)) → face_at faces run j ≡ Some face → (j ≡ 0 → ⊥) → names ≡ face.needs → names ≡ names_by j
-  names_of_library zero face names at later is = absurd (later refl)
-  names_of_library (suc j) face names at later is =
-      is ∙ ap needs_in (sym at) ∙ sym (append-nil (needs_in (face_at faces run (suc j))))
 
   -- an ask that stands in the run
   record AskStands (u : UnmetAsk) : Type 0 where
@@ -134,7 +121,3 @@ module _ (faces : List Face) (run : Run) where
       ap (λ o. slice_get (asks_in o) u.ask) at ∙ ap (λ xs. slice_get xs u.ask) (sym same_asks)
       ∙ slice_get_read asks (length asks) u.ask ask refl (ask_within u face asks h at same_asks) ask_is in
       record { refused = refused_by (replay_refusal_of stop) u asker ask h here asked names.refused; unread = names.unread }
-
-pub named_unmet : (stop : VersionStop) (found : Option UnmetAsk) → Names (unmet_ask stop) found → found ≡ unmet_ask stop
-named_unmet (VersionFileUnloaded j k) found h = h
-named_unmet (UnsatisfiedVersion j k) found h = h

@@ -1,6 +1,6 @@
 -- What all references of a run bind to, symbol after symbol; that the numbers of bindings are in
 -- range.
-use Rattle.std.proofs.Common.{◌≡◌, ◌∙◌, sym, ap, refl, subst, ℕ, zero, suc, ◌+◌, ◌<◌, ◌≤◌, ◌⊎◌, inl, inr, List, [], ◌∷◌, ◌++◌, Bool, true, false, cond, Option, Some, None, is_some, IfSome, IsSome, All, map, slice_get, drop, length, arith, append_assoc}
+use Rattle.std.proofs.Common.{◌≡◌, ◌∙◌, sym, ap, refl, subst, ℕ, zero, suc, ◌+◌, ◌<◌, ◌≤◌, List, [], ◌∷◌, ◌++◌, Bool, true, false, cond, Option, Some, None, is_some, IfSome, All, map, slice_get, drop, length, arith, append_assoc}
 use Rattle.std.specs.List.{enumerate_from, flat_map, position_from}
 use Rattle.std.specs.Option.{option_and_then, option_map}
 use Rattle.std.proofs.lemmas.List.{append-nil}
@@ -211,7 +211,7 @@ module _ (faces : List Face) (run : Run) where
       record {
         reference = ap is_some at;
         target = each_if (λ (d : Def). is_some (symbol_at faces run d.obj d.sym) ≡ true) (bound_to faces run j i class)
-        (λ d h. bound_over j i class s (binds_itself class s) d at (sym (ap (bound_by faces run j i class) at) ∙ h));
+            (λ d h. bound_over j i class s (binds_itself class s) d at (sym (ap (bound_by faces run j i class) at) ∙ h));
       }
 
   classes_over : (j i : ℕ) (s : Sym) (b : Bool) → symbol_at faces run j i ≡ Some s → All (IsBindOver faces run) (cond b (map (bind_of faces run j i) (classes_of j s)) [])
