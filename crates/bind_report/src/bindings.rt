@@ -14,6 +14,7 @@ use load_model::{Bind, Def, Face, Name, NoMemory, Run, escape_onto};
 use std::alloc::Global;
 
 /// Adds the lines of bindings, but for those whose references are of objects of the host.
+#[tactic(auto, unfolding(crate::specs::Report::bind_lines))]
 pub fn push_binds(
     alloc: Global,
     line: &mut Vec<u8>,
@@ -35,6 +36,7 @@ pub fn push_binds(
 }
 
 /// Adds the line of a binding, unless an object of the host refers.
+#[tactic(auto, unfolding(crate::specs::Report::told_bind))]
 fn push_told(
     alloc: Global,
     line: &mut Vec<u8>,
@@ -64,6 +66,7 @@ fn is_of_host(places: &[Name], obj: u32) -> bool
 }
 
 /// Adds the line of a binding.
+#[tactic(auto, unfolding(crate::specs::Report::bind_line))]
 fn push_bind(
     alloc: Global,
     line: &mut Vec<u8>,
@@ -86,6 +89,7 @@ fn push_bind(
 }
 
 /// Adds the numbers of a symbol that refers, its name and its version.
+#[tactic(auto, unfolding(crate::specs::Report::reference_text))]
 fn push_reference(
     alloc: Global,
     line: &mut Vec<u8>,

@@ -18,6 +18,7 @@ pub fn push_number(alloc: Global, line: &mut Vec<u8>, number: usize) -> Result<(
 }
 
 /// Adds the place of an object. The place `-` stands for none.
+#[tactic(auto, unfolding(crate::specs::Report::place_text))]
 pub fn push_place(line: &mut Vec<u8>, place: &Name) -> Result<(), NoMemory>
     ensures { OnOk result (line.new.items ≡ line.old.items ++ place_text place.now) }
 {

@@ -14,6 +14,7 @@ use path_text::Abs;
 use std::alloc::Global;
 
 /// Adds the lines of a program, whose objects have these places.
+#[tactic(auto, unfolding(crate::specs::Report::program_lines))]
 pub fn push_program(
     alloc: Global,
     line: &mut Vec<u8>,
@@ -35,6 +36,7 @@ pub fn push_program(
 }
 
 /// Adds the line of the program itself, the first object.
+#[tactic(auto, unfolding(crate::specs::Report::program_line))]
 fn push_first(line: &mut Vec<u8>, objs: &[Obj], places: &[Name]) -> Result<(), NoMemory>
     requires some { 0 < length objs.now }
     requires places { length places.now ≡ length objs.now }
@@ -50,6 +52,7 @@ fn push_first(line: &mut Vec<u8>, objs: &[Obj], places: &[Name]) -> Result<(), N
 }
 
 /// Adds the lines of the objects.
+#[tactic(auto, unfolding(crate::specs::Report::load_lines))]
 fn push_loads(
     alloc: Global,
     line: &mut Vec<u8>,
@@ -66,6 +69,7 @@ fn push_loads(
 }
 
 /// Adds the line of an object.
+#[tactic(auto, unfolding(crate::specs::Report::load_line))]
 fn push_load(
     alloc: Global,
     line: &mut Vec<u8>,
@@ -87,6 +91,7 @@ fn push_load(
 }
 
 /// Adds the lines of the names that the program opens.
+#[tactic(auto, unfolding(crate::specs::Report::open_lines))]
 fn push_opens(
     alloc: Global,
     line: &mut Vec<u8>,
@@ -103,6 +108,7 @@ fn push_opens(
 }
 
 /// Adds the line of an opened name, with the number of its root.
+#[tactic(auto, unfolding(crate::specs::Report::open_line))]
 fn push_open(
     alloc: Global,
     line: &mut Vec<u8>,

@@ -14,6 +14,7 @@ use std::alloc::Global;
 /// The text that tells the bindings of these programs, each with a place for each of its objects.
 ///
 /// Takes time in proportion to the text and the number of bindings.
+#[tactic(auto, unfolding(crate::specs::Report::report_text))]
 pub fn report(
     alloc: Global,
     replays: &[Replay],
@@ -35,6 +36,7 @@ pub fn report(
 }
 
 /// Adds the lines of all programs.
+#[tactic(auto, unfolding(crate::specs::Report::all_lines))]
 fn push_programs(
     alloc: Global,
     line: &mut Vec<u8>,
