@@ -109,12 +109,7 @@ fn push_opens(
 
 /// Adds the line of an opened name, with the number of its root.
 #[tactic(auto, unfolding(crate::specs::Report::open_line))]
-fn push_open(
-    alloc: Global,
-    line: &mut Vec<u8>,
-    name: &Name,
-    root: u32,
-) -> Result<(), NoMemory>
+fn push_open(alloc: Global, line: &mut Vec<u8>, name: &Name, root: u32) -> Result<(), NoMemory>
     ensures { OnOk result (line.new.items ≡ line.old.items ++ open_line (name.now, root)) }
 {
     line.extend_from_slice(b"open ")?;
