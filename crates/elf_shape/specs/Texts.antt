@@ -23,6 +23,22 @@ with_string texts (c ∷ text) = with_text texts (c ∷ text)
 unfoldable pub shape_texts : Shape → Versions → List (List ℕ)
 shape_texts shape versions = fold with_string [] (mentioned shape versions)
 
+-- the texts and those of the file's own, of its symbols, and of its versions
+abbrev pub with_own_texts : List (List ℕ) → Shape → List (List ℕ)
+with_own_texts texts shape =
+    fold with_string (fold with_string (fold with_string (fold with_string texts (option_to_list
+    shape.soname)) shape.needs) (option_to_list shape.rpath)) (option_to_list shape.runpath)
+
+abbrev pub with_symbol_names : List (List ℕ) → Shape → List (List ℕ)
+with_symbol_names texts shape =
+    fold with_string (fold with_string texts (map (λ i. i.name) shape.imports)) (map (λ e. e.name)
+    shape.exports)
+
+abbrev pub with_version_texts : List (List ℕ) → Versions → List (List ℕ)
+with_version_texts texts versions =
+    fold with_string (fold with_string (fold with_string texts (files_of versions.needed))
+    versions.definitions) (map (λ a. a.name) versions.needed)
+
 -- a text as the table has it, with a zero behind it
 abbrev pub ended : List ℕ → List ℕ
 ended text = text ++ 0 ∷ []

@@ -2,8 +2,8 @@
 //!
 //! System V gABI, String Table.
 
-ghost use Rattle.std.specs.Prelude.{◌≡◌, ◌+◌, fold, length, map, option_to_list, vec_items, OnOk, IfOk};
-ghost use Rattle.elf_shape.specs.Texts.{with_string, shape_texts, string_table, places_from, string_place};
+ghost use Rattle.std.specs.Prelude.{◌≡◌, ◌+◌, ◌++◌, flat_map, fold, length, map, option_to_list, vec_items, OnOk, IfOk};
+ghost use Rattle.elf_shape.specs.Texts.{with_string, ended, shape_texts, string_table, places_from, string_place, with_own_texts, with_symbol_names, with_version_texts};
 
 use crate::numbers::push_bytes;
 use crate::shape::{Export, Import, Shape};
@@ -38,19 +38,47 @@ fn behind(at: u32, text: &[u8]) -> Result<u32, NoMemory>
     u32::try_from(at as u128 + text.len() as u128 + 1).map_err(|_| NoMemory)
 }
 
+/// Appends where each of the texts stands, the first of them at `first`.
+fn push_places(out: &mut Vec<u32>, first: u32, texts: &[Vec<u8>]) -> Result<(), NoMemory>
+    ensures { OnOk result
+        (out.new.items ≡ out.old.items ++ places_from first (map vec_items texts.now)) }
+{
+    let mut at = first;
+    for text in texts {
+        match out.push(at) {
+            Ok(()) => at = behind(at, text.as_slice())?,
+            Err(_) => return Err(NoMemory),
+        }
+    }
+    Ok(())
+}
+
 /// Where each of the texts stands. A table of 2^32 bytes and more is not made.
 fn places_of(alloc: Global, texts: &[Vec<u8>]) -> Result<Vec<u32>, NoMemory>
     ensures { IfOk result (λ places. places.items ≡ places_from 1 (map vec_items texts.now)) }
 {
     let mut places = Vec::new(alloc);
-    let mut at = 1;
-    for text in texts {
-        match places.push(at) {
-            Ok(()) => at = behind(at, text.as_slice())?,
-            Err(_) => return Err(NoMemory),
-        }
-    }
+    push_places(&mut places, 1, texts)?;
     Ok(places)
+}
+
+/// Appends a text and a zero.
+fn push_ended(out: &mut Vec<u8>, text: &[u8]) -> Result<(), NoMemory>
+    ensures { OnOk result (out.new.items ≡ out.old.items ++ ended text.now) }
+{
+    push_bytes(out, text)?;
+    push_bytes(out, &[0])
+}
+
+/// Appends the texts, each with a zero.
+fn push_texts(out: &mut Vec<u8>, texts: &[Vec<u8>]) -> Result<(), NoMemory>
+    ensures { OnOk result
+        (out.new.items ≡ out.old.items ++ flat_map ended (map vec_items texts.now)) }
+{
+    for text in texts {
+        push_ended(out, text.as_slice())?;
+    }
+    Ok(())
 }
 
 /// The bytes of a string table with these texts.
@@ -60,10 +88,7 @@ fn table_of(alloc: Global, texts: &[Vec<u8>]) -> Result<Text, NoMemory>
 {
     let mut table = Vec::new(alloc);
     push_bytes(&mut table, &[0])?;
-    for text in texts {
-        push_bytes(&mut table, text.as_slice())?;
-        push_bytes(&mut table, &[0])?;
-    }
+    push_texts(&mut table, texts)?;
     Ok(Text::from_vec(table))
 }
 
@@ -155,22 +180,43 @@ fn add_version_names(alloc: Global, texts: &mut Texts, asks: &[Ask]) -> Result<(
     Ok(())
 }
 
+/// Adds what the file is called, what it needs, and how it is searched.
+fn add_own_texts(alloc: Global, texts: &mut Texts, shape: &Shape) -> Result<(), NoMemory>
+    ensures { OnOk result (texts.new ≡ with_own_texts texts.old shape.now) }
+{
+    add_optional(alloc, texts, &shape.soname)?;
+    add_strings(alloc, texts, shape.needs.as_slice())?;
+    add_optional(alloc, texts, &shape.rpath)?;
+    add_optional(alloc, texts, &shape.runpath)
+}
+
+/// Adds the names of its symbols.
+fn add_symbol_names(alloc: Global, texts: &mut Texts, shape: &Shape) -> Result<(), NoMemory>
+    ensures { OnOk result (texts.new ≡ with_symbol_names texts.old shape.now) }
+{
+    add_import_names(alloc, texts, shape.imports.as_slice())?;
+    add_export_names(alloc, texts, shape.exports.as_slice())
+}
+
+/// Adds the texts of its versions.
+fn add_version_texts(alloc: Global, texts: &mut Texts, versions: &Versions) -> Result<(), NoMemory>
+    ensures { OnOk result (texts.new ≡ with_version_texts texts.old versions.now) }
+{
+    let files = files_of(alloc, versions.needed.as_slice())?;
+    add_strings(alloc, texts, files.as_slice())?;
+    add_strings(alloc, texts, versions.definitions.as_slice())?;
+    add_version_names(alloc, texts, versions.needed.as_slice())
+}
+
 /// The texts of the string table, in order.
-#[tactic(auto, unfolding(crate::specs::Texts::shape_texts, crate::specs::Texts::mentioned))]
+#[tactic(auto, using(crate::proofs::ShapeTexts::texts_by_turns))]
 fn shape_texts(alloc: Global, shape: &Shape, versions: &Versions) -> Result<Texts, NoMemory>
     ensures { IfOk result (λ texts. texts ≡ shape_texts shape.now versions.now) }
 {
     let mut texts = Texts::new(alloc);
-    add_optional(alloc, &mut texts, &shape.soname)?;
-    add_strings(alloc, &mut texts, shape.needs.as_slice())?;
-    add_optional(alloc, &mut texts, &shape.rpath)?;
-    add_optional(alloc, &mut texts, &shape.runpath)?;
-    add_import_names(alloc, &mut texts, shape.imports.as_slice())?;
-    add_export_names(alloc, &mut texts, shape.exports.as_slice())?;
-    let files = files_of(alloc, versions.needed.as_slice())?;
-    add_strings(alloc, &mut texts, files.as_slice())?;
-    add_strings(alloc, &mut texts, versions.definitions.as_slice())?;
-    add_version_names(alloc, &mut texts, versions.needed.as_slice())?;
+    add_own_texts(alloc, &mut texts, shape)?;
+    add_symbol_names(alloc, &mut texts, shape)?;
+    add_version_texts(alloc, &mut texts, versions)?;
     Ok(texts)
 }
 

@@ -2,7 +2,8 @@
 //!
 //! System V gABI, Symbol Table.
 
-ghost use Rattle.std.specs.Prelude.{◌≡◌, ◌+◌, ◌++◌, length, map, OnOk, IfOk};
+ghost use Rattle.std.specs.Prelude.{[], ◌∷◌, ◌≡◌, ◌+◌, ◌++◌, length, map, OnOk, IfOk};
+ghost use Rattle.elf_shape.specs.Bytes.{halves, words};
 ghost use Rattle.elf_shape.specs.Symbols.{global_info, import_symbol, export_symbol, exports_from, has_no_value, plain_imports, valued_imports, made_symbols, symbol_bytes, symbol_table, version_indexes};
 
 use crate::numbers::{push_bytes, push_halves, push_longs, push_words};
@@ -105,6 +106,20 @@ pub fn count_plain(shape: &Shape) -> usize
     count
 }
 
+/// Appends an import.
+fn push_import(
+    out: &mut List<Symbol>,
+    texts: &Strings,
+    versions: &Versions,
+    import: &Import,
+) -> Result<(), NoMemory>
+    ensures { OnOk result
+        (out.new ≡ out.old ++ import_symbol texts.now versions.now import.now ∷ []) }
+{
+    let symbol = import_symbol(texts, versions, import)?;
+    out.push(symbol)
+}
+
 /// Appends the imports that have no value.
 #[tactic(auto, unfolding(crate::specs::Symbols::plain_imports))]
 fn push_plain(
@@ -120,7 +135,7 @@ fn push_plain(
     let imports = shape.imports.as_slice();
     for import in imports {
         if has_no_value(import) {
-            out.push(import_symbol(texts, versions, import)?)?;
+            push_import(out, texts, versions, import)?;
         }
     }
     Ok(())
@@ -141,10 +156,25 @@ fn push_valued(
     let imports = shape.imports.as_slice();
     for import in imports {
         if !has_no_value(import) {
-            out.push(import_symbol(texts, versions, import)?)?;
+            push_import(out, texts, versions, import)?;
         }
     }
     Ok(())
+}
+
+/// Appends an export, by its index.
+fn push_export(
+    out: &mut List<Symbol>,
+    index: u32,
+    export: &Export,
+    texts: &Strings,
+    versions: &Versions,
+) -> Result<(), NoMemory>
+    ensures { OnOk result
+        (out.new ≡ out.old ++ export_symbol texts.now versions.now index export.now ∷ []) }
+{
+    let symbol = export_symbol(texts, versions, index, export)?;
+    out.push(symbol)
 }
 
 /// Appends the exports, of which the first has the index `first`.
@@ -160,7 +190,7 @@ fn push_exports(
 {
     let mut index = first;
     for export in exports {
-        out.push(export_symbol(texts, versions, index, export)?)?;
+        push_export(out, index, export, texts, versions)?;
         index = next_index(index)?;
     }
     Ok(())
@@ -179,6 +209,46 @@ pub fn count_of(len: usize) -> Result<u32, NoMemory>
     u32::try_from(len).map_err(|_| NoMemory)
 }
 
+/// Appends the imports, those that have no value first.
+fn push_imports(
+    out: &mut List<Symbol>,
+    shape: &Shape,
+    texts: &Strings,
+    versions: &Versions,
+) -> Result<(), NoMemory>
+    ensures { OnOk result
+        (out.new
+        ≡ out.old
+        ++ (map (import_symbol texts.now versions.now) (plain_imports shape.now)
+        ++ map (import_symbol texts.now versions.now) (valued_imports shape.now))) }
+{
+    push_plain(out, shape, texts, versions)?;
+    push_valued(out, shape, texts, versions)
+}
+
+/// The index of the first export.
+fn first_export(shape: &Shape) -> Result<u32, NoMemory>
+    ensures { IfOk result (λ first. first ≡ 1 + length shape.now.imports) }
+{
+    next_index(count_of(shape.imports.as_slice().len())?)
+}
+
+/// Appends the exports behind the imports.
+fn push_own(
+    out: &mut List<Symbol>,
+    shape: &Shape,
+    texts: &Strings,
+    versions: &Versions,
+) -> Result<(), NoMemory>
+    ensures { OnOk result
+        (out.new
+        ≡ out.old
+        ++ exports_from texts.now versions.now (1 + length shape.now.imports) shape.now.exports) }
+{
+    let first = first_export(shape)?;
+    push_exports(out, first, shape.exports.as_slice(), texts, versions)
+}
+
 /// The symbols by index.
 #[tactic(auto, unfolding(crate::specs::Symbols::made_symbols))]
 pub fn symbols_of(
@@ -191,17 +261,21 @@ pub fn symbols_of(
 {
     let mut symbols = List::new(alloc);
     symbols.push(NULL)?;
-    push_plain(&mut symbols, shape, texts, versions)?;
-    push_valued(&mut symbols, shape, texts, versions)?;
-    let first = next_index(count_of(shape.imports.as_slice().len())?)?;
-    push_exports(
-        &mut symbols,
-        first,
-        shape.exports.as_slice(),
-        texts,
-        versions,
-    )?;
+    push_imports(&mut symbols, shape, texts, versions)?;
+    push_own(&mut symbols, shape, texts, versions)?;
     Ok(symbols)
+}
+
+/// Appends the words of a symbol that say what it is: its name, type and section.
+fn push_kind(out: &mut Vec<u8>, symbol: Symbol) -> Result<(), NoMemory>
+    ensures { OnOk result
+        (out.new.items
+        ≡ out.old.items
+        ++ (words (symbol.name ∷ []) ++ ((symbol.info ∷ 0 ∷ []) ++ halves (symbol.section ∷ [])))) }
+{
+    push_words(out, &[symbol.name])?;
+    push_bytes(out, &[symbol.info, 0])?;
+    push_halves(out, &[symbol.section])
 }
 
 /// Appends the words of a symbol.
@@ -209,21 +283,27 @@ pub fn symbols_of(
 fn push_symbol(out: &mut Vec<u8>, symbol: Symbol) -> Result<(), NoMemory>
     ensures { OnOk result (out.new.items ≡ out.old.items ++ symbol_bytes symbol) }
 {
-    push_words(out, &[symbol.name])?;
-    push_bytes(out, &[symbol.info, 0])?;
-    push_halves(out, &[symbol.section])?;
+    push_kind(out, symbol)?;
     push_longs(out, &[symbol.value, symbol.size])
 }
 
-/// The symbol table.
+/// Appends the words of symbols.
 #[tactic(auto, unfolding(crate::specs::Symbols::symbol_table))]
+fn push_symbols(out: &mut Vec<u8>, symbols: &[Symbol]) -> Result<(), NoMemory>
+    ensures { OnOk result (out.new.items ≡ out.old.items ++ symbol_table symbols.now) }
+{
+    for symbol in symbols {
+        push_symbol(out, *symbol)?;
+    }
+    Ok(())
+}
+
+/// The symbol table.
 pub fn symbol_table(alloc: Global, symbols: &[Symbol]) -> Result<Text, NoMemory>
     ensures { IfOk result (λ table. table ≡ symbol_table symbols.now) }
 {
     let mut table = Vec::new(alloc);
-    for symbol in symbols {
-        push_symbol(&mut table, *symbol)?;
-    }
+    push_symbols(&mut table, symbols)?;
     Ok(Text::from_vec(table))
 }
 

@@ -3,10 +3,10 @@
 //! Linux Standard Base, Symbol Versioning. Look-ups go through lists, which is quadratic in the
 //! number of versions, and linear in that of symbols: made files have few versions.
 
-ghost use Rattle.std.specs.Prelude.{bytes_eq, ◌≡◌, ◌+◌, ◌++◌, fold, filter_map, flat_map, OnOk, IfOk};
+ghost use Rattle.std.specs.Prelude.{[], ◌∷◌, bytes_eq, ◌≡◌, ◌+◌, ◌++◌, fold, filter_map, flat_map, map, OnOk, IfOk};
 ghost use Rattle.std.specs.Bool.{OnTrue};
 ghost use Rattle.std.specs.List.{list_any, position_from};
-ghost use Rattle.elf_shape.specs.Distinct.{each_once};
+ghost use Rattle.elf_shape.specs.Distinct.{each_once, with_text};
 ghost use Rattle.elf_shape.specs.Versions.{HasFewVersions, ask_of_import, uses_of, is_version, with_ask, first_uses, files_of, asks_of_file, file_by_file, made_versions, has_version_indexes, place_of, index_of_definition, first_needed_index, index_by, import_index, export_index};
 
 use crate::distinct::add_text;
@@ -74,12 +74,20 @@ fn add_imports(alloc: Global, asks: &mut List<Ask>, imports: &[Import]) -> Resul
     Ok(())
 }
 
+/// Adds a copy of an ask.
+fn add_copy(alloc: Global, asks: &mut List<Ask>, ask: &Ask) -> Result<(), NoMemory>
+    ensures { OnOk result (asks.new ≡ with_ask asks.old ask.now) }
+{
+    let copy = ask.copy(alloc)?;
+    add_ask(asks, copy)
+}
+
 /// Adds the asks.
 fn add_asks(alloc: Global, asks: &mut List<Ask>, more: &[Ask]) -> Result<(), NoMemory>
     ensures { OnOk result (asks.new ≡ fold with_ask asks.old more.now) }
 {
     for ask in more {
-        add_ask(asks, ask.copy(alloc)?)?;
+        add_copy(alloc, asks, ask)?;
     }
     Ok(())
 }
@@ -95,16 +103,32 @@ fn first_uses(alloc: Global, shape: &Shape) -> Result<List<Ask>, NoMemory>
     Ok(asks)
 }
 
+/// Adds the files of the asks.
+fn add_files(alloc: Global, files: &mut List<Name>, asks: &[Ask]) -> Result<(), NoMemory>
+    ensures { OnOk result (files.new ≡ fold with_text files.old (map (λ a. a.file) asks.now)) }
+{
+    for ask in asks {
+        add_text(alloc, files, ask.file.as_bytes())?;
+    }
+    Ok(())
+}
+
 /// The files of the asks, each once.
 #[tactic(auto, unfolding(crate::specs::Versions::files_of, crate::specs::Distinct::each_once))]
 pub fn files_of(alloc: Global, asks: &[Ask]) -> Result<List<Name>, NoMemory>
     ensures { IfOk result (λ files. files ≡ files_of asks.now) }
 {
     let mut files = List::new(alloc);
-    for ask in asks {
-        add_text(alloc, &mut files, ask.file.as_bytes())?;
-    }
+    add_files(alloc, &mut files, asks)?;
     Ok(files)
+}
+
+/// Appends a copy of an ask.
+fn push_copy(alloc: Global, out: &mut List<Ask>, ask: &Ask) -> Result<(), NoMemory>
+    ensures { OnOk result (out.new ≡ out.old ++ ask.now ∷ []) }
+{
+    let copy = ask.copy(alloc)?;
+    out.push(copy)
 }
 
 /// Appends the asks of a file.
@@ -119,7 +143,7 @@ fn push_asks_of(
 {
     for ask in asks {
         if ask.file.as_bytes() == file {
-            out.push(ask.copy(alloc)?)?;
+            push_copy(alloc, out, ask)?;
         }
     }
     Ok(())
@@ -161,17 +185,26 @@ fn by_file(alloc: Global, asks: &[Ask]) -> Result<List<Ask>, NoMemory>
     Ok(sorted)
 }
 
+/// Adds the versions that the exports define.
+fn add_versions(alloc: Global, names: &mut List<Name>, exports: &[Export]) -> Result<(), NoMemory>
+    ensures { OnOk result
+        (names.new ≡ fold with_text names.old (filter_map (λ e. e.version) exports.now)) }
+{
+    for export in exports {
+        if let Some(version) = &export.version {
+            add_text(alloc, names, version.as_bytes())?;
+        }
+    }
+    Ok(())
+}
+
 /// The versions that the exports define, each once.
 #[tactic(auto, unfolding(crate::specs::Distinct::each_once))]
 fn definitions_of(alloc: Global, exports: &[Export]) -> Result<List<Name>, NoMemory>
     ensures { IfOk result (λ names. names ≡ each_once (filter_map (λ e. e.version) exports.now)) }
 {
     let mut names = List::new(alloc);
-    for export in exports {
-        if let Some(version) = &export.version {
-            add_text(alloc, &mut names, version.as_bytes())?;
-        }
-    }
+    add_versions(alloc, &mut names, exports)?;
     Ok(names)
 }
 

@@ -1,6 +1,0 @@
-use Rattle.std.specs.Prelude.{◌≡◌, ◌++◌, drop, map, vec_items}
-use Rattle.elf_shape.specs.Texts.{places_from}
-use Rattle.elf_shape.proofs.strings.places_of.Given as goal
-
-abbrev pub invariant-loop-text : goal.invariant-loop-text
-invariant-loop-text l = l.places.items ++ places_from l.at (map vec_items (drop l.text-index l.texts)) ≡ places_from 1 (map vec_items l.texts)
