@@ -11,6 +11,7 @@ mod faults;
 mod indexes;
 mod kept;
 mod laws;
+mod lists;
 mod memory;
 mod names;
 mod needs;

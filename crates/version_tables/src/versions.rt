@@ -10,11 +10,9 @@ ghost use Rattle.version_tables.specs.VersionLists.{IsVersionsOf, lists_in};
 
 use crate::faults::VersionFault;
 use crate::kept::{Kept, read_kept};
-use crate::names::{
-    ask_places, definition_names, definition_places, named_asks, need_numbers, symbol_versions,
+use crate::lists::{
+    AskLists, DefinitionLists, SymbolLists, ask_lists, definition_lists, symbol_lists,
 };
-use crate::needs::Needs;
-use crate::symbols::hidden_marks;
 use dyn_table::Dyn;
 use elf_headers::Elf;
 use load_model::{Ask, List, Name, NoMemory, Ver};
@@ -24,14 +22,10 @@ use std::marker::Model;
 /// The symbol versions of a file in which they have no flaw. The file's bytes are not kept.
 #[derive(Drop)]
 pub struct Versions {
-    versions: Vec<Ver>,
-    hidden: Vec<bool>,
-    defs: List<Name>,
-    asks: List<Ask>,
+    symbols: SymbolLists,
+    definitions: DefinitionLists,
+    asked: AskLists,
     file_words: Vec<u64>,
-    ask_needs: Vec<u32>,
-    aux_places: Vec<u64>,
-    def_places: Vec<(u64, u64)>,
 }
 
 /// What a face keeps of the versions.
@@ -53,16 +47,14 @@ impl Model for Versions {
     ghost Value = { VersionLists };
 
     ghost view = { λ v. record {
-      versions = v.versions.items;
-      hidden = v.hidden.items;
-      defs =
-          v.defs;
-      asks = v.asks;
+      versions = v.symbols.versions.items;
+      hidden = v.symbols.hidden.items;
+      defs = v.definitions.names;
+      asks = v.asked.asks;
       file_words = v.file_words.items;
-      ask_needs =
-          v.ask_needs.items;
-      aux_places = v.aux_places.items;
-      def_places = v.def_places.items;
+      ask_needs = v.asked.needs.items;
+      aux_places = v.asked.places.items;
+      def_places = v.definitions.places.items;
     } };
 }
 
@@ -95,28 +87,28 @@ impl Versions {
     pub fn of(&self) -> &[Ver]
         ensures { result.now ≡ self.now.versions }
     {
-        &self.versions
+        &self.symbols.versions
     }
 
     /// For each symbol, is it a definition that is not the default of its name?
     pub fn hidden(&self) -> &[bool]
         ensures { result.now ≡ self.now.hidden }
     {
-        &self.hidden
+        &self.symbols.hidden
     }
 
     /// The names of the version definitions, in order.
     pub fn defs(&self) -> &[Name]
         ensures { result.now ≡ self.now.defs }
     {
-        self.defs.as_slice()
+        self.definitions.names.as_slice()
     }
 
     /// The versions that are asked of other files, in order.
     pub fn asks(&self) -> &[Ask]
         ensures { result.now ≡ self.now.asks }
     {
-        self.asks.as_slice()
+        self.asked.asks.as_slice()
     }
 
     /// Where the `vn_file` word of each Verneed begins in the file, in order.
@@ -130,21 +122,21 @@ impl Versions {
     pub fn ask_needs(&self) -> &[u32]
         ensures { result.now ≡ self.now.ask_needs }
     {
-        &self.ask_needs
+        &self.asked.needs
     }
 
     /// For each ask where its Vernaux begins in the file.
     pub fn aux_places(&self) -> &[u64]
         ensures { result.now ≡ self.now.aux_places }
     {
-        &self.aux_places
+        &self.asked.places
     }
 
     /// For each definition where its Verdef and its first Verdaux begin in the file.
     pub fn def_places(&self) -> &[(u64, u64)]
         ensures { result.now ≡ self.now.def_places }
     {
-        &self.def_places
+        &self.definitions.places
     }
 
     /// Gives the lists of a face away. The places in the file are let go.
@@ -154,11 +146,14 @@ impl Versions {
         ensures defs { result.defs ≡ self.defs }
         ensures asks { result.asks ≡ self.asks }
     {
+        let symbols = self.symbols;
+        let definitions = self.definitions;
+        let asked = self.asked;
         VersionParts {
-            of: self.versions,
-            hidden: self.hidden,
-            defs: self.defs,
-            asks: self.asks,
+            of: symbols.versions,
+            hidden: symbols.hidden,
+            defs: definitions.names,
+            asks: asked.asks,
         }
     }
 
@@ -171,32 +166,15 @@ impl Versions {
             ≡ lists_in bytes.now kept.words.items kept.places.items kept.definitions.items
             kept.needs.file_words.items kept.needs.asks.items) }
     {
-        let Kept {
-            words,
-            definitions,
-            needs,
-            places,
-        } = kept;
-        let Needs {
-            file_words,
-            asks: asked,
-        } = needs;
-        let versions = symbol_versions(alloc, table, bytes, &places, &words)?;
-        let hidden = hidden_marks(alloc, &words)?;
-        let defs = definition_names(alloc, table, bytes, &definitions)?;
-        let asks = named_asks(alloc, table, bytes, &asked)?;
-        let ask_needs = need_numbers(alloc, &asked)?;
-        let aux_places = ask_places(alloc, &asked)?;
-        let def_places = definition_places(alloc, &definitions)?;
+        let symbols = symbol_lists(alloc, table, bytes, &kept.places, &kept.words)?;
+        let definitions = definition_lists(alloc, table, bytes, &kept.definitions)?;
+        let asked = ask_lists(alloc, table, bytes, &kept.needs.asks)?;
+        let needs = kept.needs;
         Ok(Versions {
-            versions,
-            hidden,
-            defs,
-            asks,
-            file_words,
-            ask_needs,
-            aux_places,
-            def_places,
+            symbols,
+            definitions,
+            asked,
+            file_words: needs.file_words,
         })
     }
 }
