@@ -2,7 +2,8 @@
 //!
 //! System V gABI, Dynamic Section.
 
-ghost use Rattle.std.specs.Prelude.{◌≡◌, ◌+◌, ◌++◌, ◌∷◌, [], map, replicate, OnOk, IfOk};
+ghost use Rattle.std.specs.Prelude.{◌≡◌, ◌+◌, ◌++◌, ◌∷◌, [], cond, length, map, replicate, OnOk, IfOk};
+ghost use Rattle.elf_shape.specs.Versions.{files_of as file_names, is_none_of};
 ghost use Rattle.elf_shape.specs.Texts.{string_place};
 ghost use Rattle.elf_make.specs.DynamicTable.{tagged, where_wanted, naming, name_entries, table_entries, version_entries, end_entries, entries_of, entry_bytes, dynamic_size};
 
@@ -17,7 +18,7 @@ use elf_shape::Shape;
 use elf_shape::numbers::push_longs;
 use elf_shape::strings::Strings;
 use elf_shape::versions::{Versions, files_of};
-use load_model::{List, Name, NoMemory};
+use load_model::{Ask, List, Name, NoMemory};
 use std::alloc::Global;
 
 /// Appends an entry.
@@ -64,6 +65,20 @@ fn push_needs(out: &mut List<Entry>, texts: &Strings, needs: &[Name]) -> Result<
     Ok(())
 }
 
+/// Appends how it is searched.
+fn push_search(out: &mut List<Entry>, shape: &Shape, texts: &Strings) -> Result<(), NoMemory>
+    ensures { OnOk result
+        (out.new
+        ≡ out.old
+        ++ (naming texts.now DT_RPATH shape.now.rpath
+        ++ (naming texts.now DT_RUNPATH shape.now.runpath
+        ++ where_wanted shape.now.symbolic DT_SYMBOLIC 0))) }
+{
+    push_naming(out, texts, DT_RPATH, &shape.rpath)?;
+    push_naming(out, texts, DT_RUNPATH, &shape.runpath)?;
+    push_wanted(out, shape.symbolic, DT_SYMBOLIC, 0)
+}
+
 /// Appends what the file needs, what it is called, and how it is searched.
 #[tactic(auto, unfolding(crate::specs::DynamicTable::name_entries))]
 fn push_names(out: &mut List<Entry>, shape: &Shape, texts: &Strings) -> Result<(), NoMemory>
@@ -71,12 +86,24 @@ fn push_names(out: &mut List<Entry>, shape: &Shape, texts: &Strings) -> Result<(
 {
     push_needs(out, texts, shape.needs.as_slice())?;
     push_naming(out, texts, DT_SONAME, &shape.soname)?;
-    push_naming(out, texts, DT_RPATH, &shape.rpath)?;
-    push_naming(out, texts, DT_RUNPATH, &shape.runpath)?;
-    push_wanted(out, shape.symbolic, DT_SYMBOLIC, 0)
+    push_search(out, shape, texts)
 }
 
-/// Appends where its strings and symbols are.
+/// Appends where its strings and symbols are, of which the strings have this size.
+fn push_symbols(out: &mut List<Entry>, places: &Places, size: u64) -> Result<(), NoMemory>
+    ensures { OnOk result
+        (out.new
+        ≡ out.old
+        ++ tagged DT_STRTAB places.now.strings ∷ tagged DT_SYMTAB places.now.symbols
+        ∷ tagged DT_STRSZ size ∷ tagged DT_SYMENT SYM_SIZE ∷ []) }
+{
+    push_entry(out, DT_STRTAB, places.strings)?;
+    push_entry(out, DT_SYMTAB, places.symbols)?;
+    push_entry(out, DT_STRSZ, size)?;
+    push_entry(out, DT_SYMENT, SYM_SIZE)
+}
+
+/// Appends where its hash tables, strings and symbols are.
 #[tactic(auto, unfolding(crate::specs::DynamicTable::table_entries))]
 fn push_tables(
     out: &mut List<Entry>,
@@ -88,10 +115,43 @@ fn push_tables(
 {
     push_wanted(out, shape.sysv, DT_HASH, places.sysv)?;
     push_wanted(out, shape.gnu, DT_GNU_HASH, places.gnu)?;
-    push_entry(out, DT_STRTAB, places.strings)?;
-    push_entry(out, DT_SYMTAB, places.symbols)?;
-    push_entry(out, DT_STRSZ, parts.strings.as_bytes().len() as u64)?;
-    push_entry(out, DT_SYMENT, SYM_SIZE)
+    push_symbols(out, places, parts.strings.as_bytes().len() as u64)
+}
+
+/// Appends where the definitions are, where there are any, and how many.
+fn push_verdef(out: &mut List<Entry>, definitions: &[Name], place: u64) -> Result<(), NoMemory>
+    ensures { OnOk result
+        (out.new
+        ≡ out.old
+        ++ cond (is_none_of definitions.now) []
+        (tagged DT_VERDEF place ∷ tagged DT_VERDEFNUM (1 + length definitions.now) ∷ [])) }
+{
+    if definitions.is_empty() {
+        return Ok(());
+    }
+    push_entry(out, DT_VERDEF, place)?;
+    push_entry(out, DT_VERDEFNUM, 1 + definitions.len() as u64)
+}
+
+/// Appends where the needed versions are, where there are any, and of how many files.
+fn push_verneed(
+    alloc: Global,
+    out: &mut List<Entry>,
+    needed: &[Ask],
+    place: u64,
+) -> Result<(), NoMemory>
+    ensures { OnOk result
+        (out.new
+        ≡ out.old
+        ++ cond (is_none_of needed.now) []
+        (tagged DT_VERNEED place ∷ tagged DT_VERNEEDNUM (length (file_names needed.now)) ∷ [])) }
+{
+    if needed.is_empty() {
+        return Ok(());
+    }
+    let files = files_of(alloc, needed)?;
+    push_entry(out, DT_VERNEED, place)?;
+    push_entry(out, DT_VERNEEDNUM, files.as_slice().len() as u64)
 }
 
 /// Appends where its versions are.
@@ -105,17 +165,8 @@ fn push_versions(
     ensures { OnOk result (out.new ≡ out.old ++ version_entries versions.now places.now) }
 {
     push_wanted(out, versions.is_versioned(), DT_VERSYM, places.versym)?;
-    let definitions = versions.definitions.as_slice().len();
-    if definitions > 0 {
-        push_entry(out, DT_VERDEF, places.verdef)?;
-        push_entry(out, DT_VERDEFNUM, 1 + definitions as u64)?;
-    }
-    let files = files_of(alloc, versions.needed.as_slice())?;
-    if !versions.needed.as_slice().is_empty() {
-        push_entry(out, DT_VERNEED, places.verneed)?;
-        push_entry(out, DT_VERNEEDNUM, files.as_slice().len() as u64)?;
-    }
-    Ok(())
+    push_verdef(out, versions.definitions.as_slice(), places.verdef)?;
+    push_verneed(alloc, out, versions.needed.as_slice(), places.verneed)
 }
 
 /// Appends entries of zeros.
@@ -137,6 +188,23 @@ fn push_end(out: &mut List<Entry>, spare: u32) -> Result<(), NoMemory>
     push_spare(out, spare)
 }
 
+/// Appends the entries that name texts, and those of the tables.
+fn push_named(
+    out: &mut List<Entry>,
+    shape: &Shape,
+    texts: &Strings,
+    parts: &Parts,
+    places: &Places,
+) -> Result<(), NoMemory>
+    ensures { OnOk result
+        (out.new
+        ≡ out.old
+        ++ (name_entries shape.now texts.now ++ table_entries shape.now parts.now places.now)) }
+{
+    push_names(out, shape, texts)?;
+    push_tables(out, shape, parts, places)
+}
+
 /// The entries of the dynamic table.
 #[tactic(auto, unfolding(crate::specs::DynamicTable::entries_of))]
 pub(crate) fn entries_of(
@@ -151,8 +219,7 @@ pub(crate) fn entries_of(
         (λ entries. entries ≡ entries_of shape.now versions.now texts.now parts.now places.now) }
 {
     let mut entries = List::new(alloc);
-    push_names(&mut entries, shape, texts)?;
-    push_tables(&mut entries, shape, parts, places)?;
+    push_named(&mut entries, shape, texts, parts, places)?;
     push_versions(alloc, &mut entries, versions, places)?;
     push_end(&mut entries, shape.spare)?;
     Ok(entries)

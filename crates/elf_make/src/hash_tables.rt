@@ -2,9 +2,11 @@
 //!
 //! System V gABI, Hash Table; the GNU hash table.
 
-ghost use Rattle.std.specs.Prelude.{◌≡◌, ◌-◌, map, drop, IfOk};
+ghost use Rattle.std.specs.Prelude.{[], ◌∷◌, ◌≡◌, ◌-◌, ◌++◌, cond, map, drop, IfOk, OnOk};
+ghost use Rattle.elf_shape.specs.Bytes.{longs, words};
+ghost use Rattle.elf_shape.specs.Versions.{is_none_of};
 ghost use Rattle.std.specs.List.{range_with_len};
-ghost use Rattle.elf_make.specs.HashTables.{made_sysv_table, with_bits, bloom_word, chain_words, gnu_words, made_gnu_table};
+ghost use Rattle.elf_make.specs.HashTables.{made_sysv_table, with_bits, bloom_word, made_bloom_shift, chain_words, gnu_words, made_gnu_table};
 
 use elf_shape::numbers::{push_longs, push_words};
 use elf_shape::symbols::Symbol;
@@ -63,18 +65,37 @@ fn chain_words(alloc: Global, hashes: &[u32]) -> Result<List<u32>, NoMemory>
     Ok(chain)
 }
 
+/// Appends what comes before the chain of a GNU table.
+fn push_gnu_front(out: &mut Vec<u8>, offset: u32, hashes: &[u32]) -> Result<(), NoMemory>
+    ensures { OnOk result
+        (out.new.items
+        ≡ out.old.items
+        ++ (words (1 ∷ offset ∷ 1 ∷ made_bloom_shift ∷ [])
+        ++ (longs (bloom_word hashes.now ∷ [])
+        ++ words (cond (is_none_of hashes.now) 0 offset ∷ [])))) }
+{
+    let bucket = if hashes.is_empty() { 0 } else { offset };
+    push_words(out, &[1, offset, 1, BLOOM_SHIFT])?;
+    push_longs(out, &[bloom_word(hashes)])?;
+    push_words(out, &[bucket])
+}
+
+/// Appends the chain of a GNU table.
+fn push_gnu_chain(alloc: Global, out: &mut Vec<u8>, hashes: &[u32]) -> Result<(), NoMemory>
+    ensures { OnOk result (out.new.items ≡ out.old.items ++ words (chain_words hashes.now)) }
+{
+    let chain = chain_words(alloc, hashes)?;
+    push_words(out, chain.as_slice())
+}
+
 /// The GNU table whose bucket holds `offset`, with these hashes from there on.
 #[tactic(auto, unfolding(crate::specs::HashTables::gnu_words))]
 fn gnu_words(alloc: Global, offset: u32, hashes: &[u32]) -> Result<Text, NoMemory>
     ensures { IfOk result (λ table. table ≡ gnu_words offset hashes.now) }
 {
-    let bucket = if hashes.is_empty() { 0 } else { offset };
-    let chain = chain_words(alloc, hashes)?;
     let mut table = Vec::new(alloc);
-    push_words(&mut table, &[1, offset, 1, BLOOM_SHIFT])?;
-    push_longs(&mut table, &[bloom_word(hashes)])?;
-    push_words(&mut table, &[bucket])?;
-    push_words(&mut table, chain.as_slice())?;
+    push_gnu_front(&mut table, offset, hashes)?;
+    push_gnu_chain(alloc, &mut table, hashes)?;
     Ok(Text::from_vec(table))
 }
 

@@ -2,8 +2,9 @@
 //!
 //! System V gABI, ELF Header, Program Header and Sections.
 
-ghost use Rattle.std.specs.Prelude.{◌≡◌, ◌+◌, ◌++◌, OnOk, IfOk};
-ghost use Rattle.elf_make.specs.Headers.{kind_words, table_words, file_header, segment, page_of, segments_of, segment_bytes, section_headers, sections_of};
+ghost use Rattle.std.specs.Prelude.{[], ◌∷◌, ◌≡◌, ◌+◌, ◌++◌, OnOk, IfOk};
+ghost use Rattle.elf_shape.specs.Bytes.{longs, words};
+ghost use Rattle.elf_make.specs.Headers.{interp_segments, kind_words, table_words, file_header, segment, page_of, segments_of, segment_bytes, section_headers, sections_of};
 
 use crate::parts::{Parts, Places, segment_count};
 use byte_view::Segment;
@@ -96,6 +97,39 @@ fn load_segment(end: u64, zero: u64, align: u64) -> Result<Segment, NoMemory>
     })
 }
 
+/// Appends those of the header table and the interpreter, where there is one.
+fn push_interp(
+    out: &mut List<Segment>,
+    shape: &Shape,
+    parts: &Parts,
+    places: &Places,
+) -> Result<(), NoMemory>
+    ensures { OnOk result
+        (out.new ≡ out.old ++ interp_segments shape.now parts.now places.now) }
+{
+    if shape.interp.is_none() {
+        return Ok(());
+    }
+    let table_size = PHDR_SIZE as u64 * 4;
+    out.push(segment(PT_PHDR, PF_R, EHDR_SIZE as u64, table_size, 8))?;
+    let size = parts.interp.as_bytes().len() as u64;
+    out.push(segment(PT_INTERP, PF_R, places.interp, size, 1))
+}
+
+/// Appends what is loaded up to the end of the dynamic table, which stands at a place and has this
+/// size.
+fn push_load(out: &mut List<Segment>, shape: &Shape, place: u64, size: u64) -> Result<(), NoMemory>
+    ensures { OnOk result
+        (out.new
+        ≡ out.old
+        ++ segment PT_LOAD (PF_R + PF_W) 0 (place + size) shape.now.zero (page_of shape.now.machine)
+        ∷ []) }
+{
+    let end = place.checked_add(size).ok_or(NoMemory)?;
+    let load = load_segment(end, shape.zero, page_of(shape.machine))?;
+    out.push(load)
+}
+
 /// The program headers.
 #[tactic(auto, unfolding(crate::specs::Headers::segments_of))]
 pub(crate) fn segments_of(
@@ -109,16 +143,26 @@ pub(crate) fn segments_of(
         (λ segments. segments ≡ segments_of shape.now parts.now places.now dynamic_size) }
 {
     let mut segments = List::new(alloc);
-    if shape.interp.is_some() {
-        let table_size = PHDR_SIZE as u64 * 4;
-        segments.push(segment(PT_PHDR, PF_R, EHDR_SIZE as u64, table_size, 8))?;
-        let size = parts.interp.as_bytes().len() as u64;
-        segments.push(segment(PT_INTERP, PF_R, places.interp, size, 1))?;
-    }
-    let end = places.dynamic.checked_add(dynamic_size).ok_or(NoMemory)?;
-    segments.push(load_segment(end, shape.zero, page_of(shape.machine))?)?;
+    push_interp(&mut segments, shape, parts, places)?;
+    push_load(&mut segments, shape, places.dynamic, dynamic_size)?;
     segments.push(segment(PT_DYNAMIC, PF_R + PF_W, places.dynamic, dynamic_size, 8))?;
     Ok(segments)
+}
+
+/// Appends a program header.
+fn push_segment(out: &mut Vec<u8>, s: &Segment) -> Result<(), NoMemory>
+    ensures { OnOk result
+        (out.new.items
+        ≡ out.old.items
+        ++ (words (s.now.kind ∷ s.now.flags ∷ [])
+        ++ longs (s.now.offset ∷ s.now.vaddr ∷ s.now.paddr ∷ s.now.filesz ∷ s.now.memsz
+        ∷ s.now.align ∷ []))) }
+{
+    push_words(out, &[s.kind, s.flags])?;
+    push_longs(
+        out,
+        &[s.offset, s.vaddr, s.paddr, s.filesz, s.memsz, s.align],
+    )
 }
 
 /// Appends the program headers.
@@ -127,13 +171,33 @@ pub(crate) fn push_segments(out: &mut Vec<u8>, segments: &[Segment]) -> Result<(
     ensures { OnOk result (out.new.items ≡ out.old.items ++ segment_bytes segments.now) }
 {
     for s in segments {
-        push_words(out, &[s.kind, s.flags])?;
-        push_longs(
-            out,
-            &[s.offset, s.vaddr, s.paddr, s.filesz, s.memsz, s.align],
-        )?;
+        push_segment(out, s)?;
     }
     Ok(())
+}
+
+/// Appends the null section, and what the next one is.
+fn push_section_kind(out: &mut Vec<u8>) -> Result<(), NoMemory>
+    ensures { OnOk result
+        (out.new.items
+        ≡ out.old.items
+        ++ (longs (0 ∷ 0 ∷ 0 ∷ 0 ∷ 0 ∷ 0 ∷ 0 ∷ 0 ∷ []) ++ words (0 ∷ SHT_DYNSYM ∷ []))) }
+{
+    push_longs(out, &[0, 0, 0, 0, 0, 0, 0, 0])?;
+    push_words(out, &[0, SHT_DYNSYM])
+}
+
+/// Appends where the symbols stand, and how large they are.
+fn push_section_place(out: &mut Vec<u8>, place: u64, size: u64) -> Result<(), NoMemory>
+    ensures { OnOk result
+        (out.new.items
+        ≡ out.old.items
+        ++ (longs (0 ∷ place ∷ place ∷ size ∷ [])
+        ++ (words (0 ∷ 1 ∷ []) ++ longs (0 ∷ SYM_SIZE ∷ [])))) }
+{
+    push_longs(out, &[0, place, place, size])?;
+    push_words(out, &[0, 1])?;
+    push_longs(out, &[0, SYM_SIZE])
 }
 
 /// Appends the null section and that of the symbols, which stand at a place.
@@ -141,11 +205,8 @@ pub(crate) fn push_segments(out: &mut Vec<u8>, segments: &[Segment]) -> Result<(
 fn push_section_headers(out: &mut Vec<u8>, place: u64, size: u64) -> Result<(), NoMemory>
     ensures { OnOk result (out.new.items ≡ out.old.items ++ section_headers place size) }
 {
-    push_longs(out, &[0, 0, 0, 0, 0, 0, 0, 0])?;
-    push_words(out, &[0, SHT_DYNSYM])?;
-    push_longs(out, &[0, place, place, size])?;
-    push_words(out, &[0, 1])?;
-    push_longs(out, &[0, SYM_SIZE])
+    push_section_kind(out)?;
+    push_section_place(out, place, size)
 }
 
 /// Appends the section headers, where they are wanted.

@@ -2,7 +2,9 @@
 
 ghost use Rattle.std.specs.Prelude.{◌≡◌, ◌+◌, ◌++◌, length, OnOk, IfOk};
 ghost use Rattle.elf_make.specs.HashTables.{made_sysv_table, made_gnu_table};
-ghost use Rattle.elf_shape.specs.Symbols.{plain_imports, version_indexes as version_words};
+ghost use Rattle.elf_shape.specs.Symbols.{plain_imports, symbol_table as symbol_words, version_indexes as version_words};
+ghost use Rattle.elf_shape.specs.Texts.{string_table};
+ghost use Rattle.elf_make.specs.VersionTables.{verdef_of, verneed_of};
 ghost use Rattle.elf_shape.specs.Versions.{has_version_indexes};
 ghost use Rattle.elf_make.specs.Parts.{after, wanted, made_interp, made_parts, segment_count, parts_begin, places_of, symbol_parts, version_parts, part_bytes};
 
@@ -95,6 +97,88 @@ fn versym_of(alloc: Global, versions: &Versions, symbols: &[Symbol]) -> Result<T
     }
 }
 
+/// The parts that each file has.
+#[derive(Drop)]
+struct TableParts {
+    interp: Text,
+    strings: Text,
+    symbols: Text,
+}
+
+/// Makes them.
+fn table_parts(
+    alloc: Global,
+    shape: &Shape,
+    texts: &Strings,
+    symbols: &[Symbol],
+) -> Result<TableParts, NoMemory>
+    ensures interp { IfOk result (λ p. p.interp ≡ made_interp shape.now.interp) }
+    ensures strings { IfOk result (λ p. p.strings ≡ string_table texts.now) }
+    ensures symbols { IfOk result (λ p. p.symbols ≡ symbol_words symbols.now) }
+{
+    let interp = interp_of(alloc, &shape.interp)?;
+    let strings = texts.table(alloc)?;
+    let symbols = symbol_table(alloc, symbols)?;
+    Ok(TableParts {
+        interp,
+        strings,
+        symbols,
+    })
+}
+
+/// The hash tables.
+#[derive(Drop)]
+struct HashParts {
+    sysv: Text,
+    gnu: Text,
+}
+
+/// Makes them.
+fn hash_parts(alloc: Global, shape: &Shape, symbols: &[Symbol]) -> Result<HashParts, NoMemory>
+    ensures sysv { IfOk result
+        (λ p. p.sysv ≡ wanted shape.now.sysv (made_sysv_table (length symbols.now))) }
+    ensures gnu { IfOk result
+        (λ p. p.gnu
+        ≡ wanted shape.now.gnu
+        (made_gnu_table (1 + length (plain_imports shape.now)) symbols.now)) }
+{
+    let sysv = sysv_of(alloc, shape, symbols)?;
+    let gnu = gnu_of(alloc, shape, symbols)?;
+    Ok(HashParts { sysv, gnu })
+}
+
+/// The tables of versions.
+#[derive(Drop)]
+struct VersionParts {
+    versym: Text,
+    verdef: Text,
+    verneed: Text,
+}
+
+/// Makes them. Where the file has a name of its own, that is `soname`.
+fn records_of(
+    alloc: Global,
+    soname: &Option<Name>,
+    versions: &Versions,
+    texts: &Strings,
+    symbols: &[Symbol],
+) -> Result<VersionParts, NoMemory>
+    ensures versym { IfOk result
+        (λ p. p.versym ≡ wanted (has_version_indexes versions.now) (version_words symbols.now)) }
+    ensures verdef { IfOk result
+        (λ p. p.verdef ≡ verdef_of texts.now soname.now versions.now.definitions) }
+    ensures verneed { IfOk result (λ p. p.verneed ≡ verneed_of texts.now versions.now) }
+{
+    let versym = versym_of(alloc, versions, symbols)?;
+    let verdef = verdef_of(alloc, texts, soname, versions.definitions.as_slice())?;
+    let verneed = verneed_of(alloc, texts, versions)?;
+    Ok(VersionParts {
+        versym,
+        verdef,
+        verneed,
+    })
+}
+
 /// The parts of a file.
 #[tactic(auto, unfolding(crate::specs::Parts::made_parts))]
 pub(crate) fn object_parts(
@@ -107,15 +191,18 @@ pub(crate) fn object_parts(
     ensures { IfOk result
         (λ parts. parts ≡ made_parts shape.now versions.now texts.now symbols.now) }
 {
+    let tables = table_parts(alloc, shape, texts, symbols)?;
+    let hashes = hash_parts(alloc, shape, symbols)?;
+    let records = records_of(alloc, &shape.soname, versions, texts, symbols)?;
     Ok(Parts {
-        interp: interp_of(alloc, &shape.interp)?,
-        strings: texts.table(alloc)?,
-        symbols: symbol_table(alloc, symbols)?,
-        sysv: sysv_of(alloc, shape, symbols)?,
-        gnu: gnu_of(alloc, shape, symbols)?,
-        versym: versym_of(alloc, versions, symbols)?,
-        verdef: verdef_of(alloc, texts, &shape.soname, versions.definitions.as_slice())?,
-        verneed: verneed_of(alloc, texts, versions)?,
+        interp: tables.interp,
+        strings: tables.strings,
+        symbols: tables.symbols,
+        sysv: hashes.sysv,
+        gnu: hashes.gnu,
+        versym: records.versym,
+        verdef: records.verdef,
+        verneed: records.verneed,
     })
 }
 
