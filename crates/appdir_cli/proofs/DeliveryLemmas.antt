@@ -7,10 +7,10 @@ use Rattle.ports.specs.declared.folders.RootState.TheVariants.{Empty, NotEmpty a
 use Rattle.ports.specs.Folder.{Added, Folder, with_files, with_root}
 use Rattle.ports.specs.View.{Became, Changed, View}
 use Rattle.appdir_cli.specs.Delivery.{IsDelivered, IsFull, IsPart, IsWhole}
-use Rattle.appdir_cli.specs.Lines.{refusal_line}
+use Rattle.refusals.specs.Lines.{refusal_line}
 use Rattle.appdir_cli.specs.Saying.{IsSaid}
 use Rattle.appdir_cli.specs.declared.answer.Whole.{Whole}
-use Rattle.appdir_cli.specs.declared.refusal.Refusal.TheVariants.{NotEmpty}
+use Rattle.refusals.specs.declared.refusal.Refusal.TheVariants.{NotEmpty}
 use Rattle.appdir_cli.specs.declared.status.Status.{Status}
 use Rattle.appdir_cli.specs.declared.status.Status.TheVariants.{Done, Refused}
 

@@ -1,23 +1,15 @@
 -- How a call for a command ends, from how its files were delivered, or from its refusal.
-use Rattle.std.proofs.Common.{ℕ, List, ◌≡◌, inl, inr, refl, sym, subst, Result, Ok, Err}
+use Rattle.std.proofs.Common.{ℕ, List, ◌≡◌, inl, inr, refl, sym, subst, Ok, Err}
 use Rattle.appdir_cli.specs.Delivery.{IsDelivered, IsFull, IsWhole}
 use Rattle.appdir_cli.specs.Endings.{EndsFor, EndsUnshaped, IsDone, IsOutcome, IsRefused, Outside}
-use Rattle.ports.specs.View.{Stays, View}
-use Rattle.appdir_cli.specs.Lines.{refusal_line, usage_text}
+use Rattle.ports.specs.View.{Stays}
+use Rattle.refusals.specs.Lines.{refusal_line, usage_text}
 use Rattle.appdir_cli.specs.Saying.{IsRefusal, IsSaid}
-use Rattle.appdir_cli.specs.Packing.{Packs as IsPackedBy}
-use Rattle.appdir_cli.specs.ComesTo.{ComesTo}
-use Rattle.appdir_cli.specs.Steps.{IsStepAnswer}
-use Rattle.load_model.specs.World.{World}
-use Rattle.appdir_cli.specs.declared.answer.Answer.{Answer}
-use Rattle.appdir_cli.specs.declared.answer.Stop.{Stop}
-use Rattle.appdir_cli.specs.declared.words.Command.TheVariants.{Quick as AsksQuick}
-use Rattle.appdir_cli.specs.declared.words.Quick.{Quick}
 use Rattle.appdir_cli.specs.declared.answer.Answer.TheVariants.{Packs, Says}
 use Rattle.appdir_cli.specs.declared.answer.Whole.{Whole}
 use Rattle.appdir_cli.specs.declared.words.Command.{Command}
-use Rattle.appdir_cli.specs.declared.refusal.Refusal.{Refusal}
-use Rattle.appdir_cli.specs.declared.refusal.Refusal.TheVariants.{NotEmpty}
+use Rattle.refusals.specs.declared.refusal.Refusal.{Refusal}
+use Rattle.refusals.specs.declared.refusal.Refusal.TheVariants.{NotEmpty}
 use Rattle.appdir_cli.specs.declared.status.Status.{Status}
 use Rattle.appdir_cli.specs.declared.status.Status.TheVariants.{Done, Refused, Usage, ReadFailed, WriteFailed, NoMemory, PrintFailed}
 
@@ -74,10 +66,3 @@ unshaped_ends before after line status untouched is h =
       | inl took ↦ subst P (sym took.0) (line, (is, untouched), took.1)
       | inr part ↦ subst P (sym part.0) (line, (is, untouched), part.1)
     ]
-
-abbrev pub quick_of : Command → Quick
-quick_of (AsksQuick quick) = quick
-
--- the one command
-pub commanded : (before after : View World) (command : Command) (result : Result Answer Stop) → IsStepAnswer before after (λ world outcome. IsPackedBy world (quick_of command) outcome) result → IsStepAnswer before after (λ world outcome. ComesTo world command outcome) result
-commanded before after (AsksQuick quick) result h = h

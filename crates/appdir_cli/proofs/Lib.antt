@@ -2,12 +2,8 @@ pub mod CompletenessLemmas
 pub mod DeliveryLemmas
 pub mod DirectoryLemmas
 pub mod EndingLemmas
-pub mod FittingLemmas
 pub mod FolderLemmas
-pub mod KeepingLemmas
 pub mod Lists
-pub mod OpeningLemmas
 pub mod PackingLemmas
-pub mod ReadingLemmas
 pub mod StopLemmas
 pub mod TwoWorldsLemmas

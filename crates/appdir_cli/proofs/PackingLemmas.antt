@@ -6,9 +6,9 @@ use Rattle.load_model.specs.Loads.{program_at, program_by}
 use Rattle.load_model.specs.World.{World, file_at}
 use Rattle.load_model.specs.declared.refusals.LoadRefusal.TheVariants.{NoProgram}
 use Rattle.ports.specs.View.{OnlyReads, View}
-use Rattle.appdir_cli.proofs.FittingLemmas.{listed_in_run}
-use Rattle.appdir_cli.proofs.OpeningLemmas.{kind_absent}
-use Rattle.appdir_cli.specs.Fitting.{is_all_listed, run_is_all_listed}
+use Rattle.listed_runs.proofs.FittingLemmas.{listed_in_run}
+use Rattle.tree_opener.proofs.OpeningLemmas.{kind_absent}
+use Rattle.listed_runs.specs.Fitting.{is_all_listed, run_is_all_listed}
 use Rattle.appdir_cli.specs.Packing.{HasBytes, HasList, IsPackage, IsUnlisted, LoadsAs, Packs, default_setting, package_with}
 use Rattle.appdir_cli.specs.Steps.{IsStepAnswer}
 use Rattle.appdir_cli.specs.declared.answer.Answer.{Answer}
@@ -16,8 +16,8 @@ use Rattle.appdir_cli.specs.declared.answer.Stop.{Stop}
 use Rattle.appdir_cli.specs.declared.answer.Stop.TheVariants.{Refused, Read, NoMemory}
 use Rattle.appdir_cli.specs.declared.answer.Whole.{Whole}
 use Rattle.appdir_cli.specs.declared.loading.LoadedProgram.{LoadedProgram}
-use Rattle.appdir_cli.specs.declared.refusal.Refusal.{Refusal}
-use Rattle.appdir_cli.specs.declared.refusal.Refusal.TheVariants.{Load, NotBuilt, NotEmpty}
+use Rattle.refusals.specs.declared.refusal.Refusal.{Refusal}
+use Rattle.refusals.specs.declared.refusal.Refusal.TheVariants.{Load, NotBuilt, NotEmpty}
 use Rattle.appdir_cli.specs.declared.words.Quick.{Quick}
 
 pub packed_or_refused : (world : World) (command : Quick) (whole : Whole) (refusal : Refusal) → IsPackage world command whole → Packs world command (Err refusal) → ⊥
@@ -56,6 +56,13 @@ packaged world command loaded bytes whole loads h has is = record {
   file = has.0;
   lies = has.1;
   whole_is = is ∙ ap (λ b. package_with command b (length loaded.run.objs - 1)) has.2 ∙ ap (λ n. package_with command has.0.bytes (n - 1)) loads.run_is.count;
+}
+
+-- two steps that read alone are one
+pub both_read : (before middle after : View World) → OnlyReads before middle → OnlyReads middle after → OnlyReads before after
+both_read before middle after first next = record {
+  stays = next.stays ∙ first.stays;
+  never_falls = omega (arith, first.never_falls, next.never_falls);
 }
 
 not_there : (world : World) (path : List ℕ) → file_at world path ≡ None → program_at face_or_flaw default_setting world path ≡ Err (NoProgram path)

@@ -5,10 +5,10 @@ use Rattle.answers.specs.Told.{WhereTold}
 use Rattle.ports.specs.Folder.{Folder, with_files, with_root}
 use Rattle.ports.specs.View.{View, Became, Changed, Stays}
 use Rattle.ports.specs.declared.folders.MemFile.{MemFile}
-use Rattle.appdir_cli.specs.Lines.{refusal_line}
+use Rattle.refusals.specs.Lines.{refusal_line}
 use Rattle.appdir_cli.specs.Saying.{Took, TookPart}
 use Rattle.appdir_cli.specs.declared.answer.Whole.{Whole}
-use Rattle.appdir_cli.specs.declared.refusal.Refusal.TheVariants.{NotEmpty}
+use Rattle.refusals.specs.declared.refusal.Refusal.TheVariants.{NotEmpty}
 use Rattle.appdir_cli.specs.declared.status.Status.{Status}
 use Rattle.appdir_cli.specs.declared.status.Status.TheVariants.{Done, Refused, Usage, ReadFailed, WriteFailed, NoMemory, PrintFailed}
 

@@ -1,13 +1,8 @@
 pub mod ComesTo
-pub mod Damage
 pub mod Delivery
 pub mod Endings
-pub mod Fitting
-pub mod Keeping
-pub mod Lines
 pub mod Loading
 pub mod Packing
-pub mod Reading
 pub mod Saying
 pub mod Status
 pub mod Steps

@@ -11,14 +11,14 @@ use Rattle.load_model.specs.declared.refusals.LoadRefusal.TheVariants.{NoProgram
 use Rattle.load_model.specs.declared.setting.Setting.{Setting}
 use Rattle.load_model.specs.declared.world.WorldFile.{WorldFile}
 use Rattle.ports.specs.declared.folders.MemFile.{MemFile}
-use Rattle.appdir_cli.specs.Fitting.{is_all_listed}
-use Rattle.appdir_cli.specs.Lines.{done_line}
+use Rattle.listed_runs.specs.Fitting.{is_all_listed}
+use Rattle.refusals.specs.Lines.{done_line}
 use Rattle.appdir_cli.specs.declared.answer.Answer.{Answer}
 use Rattle.appdir_cli.specs.declared.answer.Answer.TheVariants.{Says, Packs as PacksFiles}
 use Rattle.appdir_cli.specs.declared.answer.Whole.{Whole}
 use Rattle.appdir_cli.specs.declared.loading.LoadedProgram.{LoadedProgram}
-use Rattle.appdir_cli.specs.declared.refusal.Refusal.{Refusal}
-use Rattle.appdir_cli.specs.declared.refusal.Refusal.TheVariants.{Load, NotBuilt, NotEmpty}
+use Rattle.refusals.specs.declared.refusal.Refusal.{Refusal}
+use Rattle.refusals.specs.declared.refusal.Refusal.TheVariants.{Load, NotBuilt, NotEmpty}
 use Rattle.appdir_cli.specs.declared.words.Quick.{Quick}
 
 -- Where a loader looks for libraries, unless it is told otherwise.

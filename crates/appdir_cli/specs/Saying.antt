@@ -2,8 +2,8 @@
 use Rattle.std.specs.Prelude.{ℕ, List, take, ◌≡◌, ◌⊎◌}
 use Rattle.answers.specs.Faults.{Rose}
 use Rattle.ports.specs.View.{View, Became, Stays, with_line}
-use Rattle.appdir_cli.specs.Lines.{refusal_line}
-use Rattle.appdir_cli.specs.declared.refusal.Refusal.{Refusal}
+use Rattle.refusals.specs.Lines.{refusal_line}
+use Rattle.refusals.specs.declared.refusal.Refusal.{Refusal}
 use Rattle.appdir_cli.specs.declared.status.Status.{Status}
 use Rattle.appdir_cli.specs.declared.status.Status.TheVariants.{Refused, NoMemory, PrintFailed}
 

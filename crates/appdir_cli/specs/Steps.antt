@@ -6,7 +6,7 @@ use Rattle.answers.specs.Told.{WhereTold}
 use Rattle.ports.specs.View.{View}
 use Rattle.appdir_cli.specs.declared.answer.Stop.{Stop}
 use Rattle.appdir_cli.specs.declared.answer.Stop.TheVariants.{Refused, Read, NoMemory}
-use Rattle.appdir_cli.specs.declared.refusal.Refusal.{Refusal}
+use Rattle.refusals.specs.declared.refusal.Refusal.{Refusal}
 
 -- A value or a refusal is one that the world allows; a read fails only where the count of faults
 -- rose; want of memory is free.

@@ -8,7 +8,7 @@ use Rattle.search_paths.specs.declared.hits.SearchStop.{SearchStop}
 use Rattle.search_paths.specs.declared.hits.SearchStop.TheVariants.{RelativeItem as StopRelativeItem, TokenUnset as StopTokenUnset, Open, NoMemory as NoMemorySearch}
 use Rattle.appdir_cli.specs.declared.answer.Stop.{Stop}
 use Rattle.appdir_cli.specs.declared.answer.Stop.TheVariants.{Refused, Read, NoMemory}
-use Rattle.appdir_cli.specs.declared.refusal.Refusal.TheVariants.{Load}
+use Rattle.refusals.specs.declared.refusal.Refusal.TheVariants.{Load}
 
 abbrev pub stop_of_open : OpenFault → Stop
 stop_of_open ReadFault = Read

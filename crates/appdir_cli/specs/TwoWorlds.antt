@@ -10,7 +10,7 @@ use Rattle.load_model.specs.declared.setting.Setting.{Setting}
 use Rattle.load_model.specs.declared.world.WorldFile.{WorldFile}
 use Rattle.ports.specs.Folder.{Folder}
 use Rattle.ports.specs.View.{View}
-use Rattle.appdir_cli.specs.Fitting.{is_all_listed}
+use Rattle.listed_runs.specs.Fitting.{is_all_listed}
 use Rattle.appdir_cli.specs.Packing.{HasList, app_run_of}
 use Rattle.appdir_cli.specs.declared.words.Command.{Command}
 use Rattle.appdir_cli.specs.declared.words.Command.TheVariants.{Quick as AsksQuick}

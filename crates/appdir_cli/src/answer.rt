@@ -3,10 +3,10 @@
 ghost use Rattle.std.specs.Prelude.{◌≡◌};
 ghost use Rattle.appdir_cli.specs.declared.answer.Stop.TheVariants.{NoMemory as Exhausted};
 
-use crate::refusal::Refusal;
 use load_model::{List, Text};
 use path_text::{Abs, NoMemory};
 use ports::MemFile;
+use refusals::Refusal;
 use std::alloc::AllocError;
 
 /// Files that are written, where, and the line that is said then.

@@ -4,11 +4,11 @@ ghost use Rattle.std.specs.Prelude.{◌≤◌};
 ghost use Rattle.appdir_cli.specs.Delivery.{IsDelivered};
 
 use crate::answer::Whole;
-use crate::refusal::not_empty_text;
 use crate::saying::say;
 use crate::status::Status;
 use crate::writing::write_items;
 use ports::{OutDir, RootState, Sink};
+use refusals::not_empty_text;
 use std::alloc::Global;
 
 /// Writes the files into an empty folder, and says the line. What needs memory comes before the

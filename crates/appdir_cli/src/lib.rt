@@ -2,16 +2,10 @@
 #![tactic(auto)]
 
 mod answer;
-mod damage;
 mod delivering;
-mod fitting;
 mod loading;
-mod numbers;
 mod obeying;
-mod opening;
 mod packing;
-mod reading;
-mod refusal;
 mod saying;
 mod status;
 mod top;
@@ -19,7 +13,7 @@ mod words;
 mod writing;
 
 pub use answer::{Answer, Whole};
-pub use refusal::Refusal;
+pub use refusals::Refusal;
 pub use status::{Status, exit_number, status_name};
 pub use top::appdir_main;
 pub use words::{Command, Quick};

@@ -1,8 +1,8 @@
 //! The load list of a program, over the tree. Definitions: `specs/Packing.antt` (`LoadsAs`) and
 //! `specs/Stops.antt`.
 
-ghost use Rattle.std.specs.Prelude.{◌≡◌, IfOk, All};
-ghost use Rattle.path_text.specs.Path.{IsNormalPath, path_of};
+ghost use Rattle.std.specs.Prelude.{◌≡◌, ◌++◌, ◌∷◌, [], IfOk, OnOk};
+ghost use Rattle.path_text.specs.Path.{path_of};
 ghost use Rattle.ports.specs.View.{OnlyReads};
 ghost use Rattle.appdir_cli.specs.Packing.{LoadsAs, default_dirs as default_dirs_list, default_setting};
 ghost use Rattle.appdir_cli.specs.Loading.{IsTreeLoaded};
@@ -11,15 +11,15 @@ ghost use Rattle.appdir_cli.specs.Steps.{IsStepAnswer};
 ghost use Rattle.appdir_cli.specs.Stops.{stop_of_load, stop_of_open, stop_of_search};
 
 use crate::answer::Stop;
-use crate::opening::FileOpener;
-use crate::refusal::Refusal;
 use byte_view::constants::EM_X86_64;
 use load_model::{FaceTable, List, LoadRefusal, OpenFault, Run, Setting};
 use load_order::{LoadStop, load};
-use path_text::{Abs, NoMemory, PathFault};
+use path_text::{Abs, NoMemory};
 use ports::Tree;
+use refusals::Refusal;
 use search_paths::SearchStop;
 use std::alloc::Global;
+use tree_opener::FileOpener;
 
 /// A load list, over the faces of its objects.
 #[derive(Drop)]
@@ -151,33 +151,23 @@ fn default_dirs(alloc: Global) -> Result<List<Abs>, NoMemory>
     ensures { IfOk result (λ dirs. dirs ≡ default_dirs_list) }
 {
     let mut dirs = List::new(alloc);
-    dirs.push(directory(alloc, b"/usr/local/lib")?)?;
-    dirs.push(directory(alloc, b"/lib/x86_64-linux-gnu")?)?;
-    dirs.push(directory(alloc, b"/usr/lib/x86_64-linux-gnu")?)?;
-    dirs.push(directory(alloc, b"/lib64")?)?;
-    dirs.push(directory(alloc, b"/usr/lib64")?)?;
-    dirs.push(directory(alloc, b"/lib")?)?;
-    dirs.push(directory(alloc, b"/usr/lib")?)?;
+    push_directory(alloc, &mut dirs, b"/usr/local/lib")?;
+    push_directory(alloc, &mut dirs, b"/lib/x86_64-linux-gnu")?;
+    push_directory(alloc, &mut dirs, b"/usr/lib/x86_64-linux-gnu")?;
+    push_directory(alloc, &mut dirs, b"/lib64")?;
+    push_directory(alloc, &mut dirs, b"/usr/lib64")?;
+    push_directory(alloc, &mut dirs, b"/lib")?;
+    push_directory(alloc, &mut dirs, b"/usr/lib")?;
     Ok(dirs)
 }
 
-/// A path that is in normal form.
-fn directory(alloc: Global, text: &[u8]) -> Result<Abs, NoMemory>
+/// Adds a path that is in normal form at the end of directories.
+fn push_directory(alloc: Global, dirs: &mut List<Abs>, text: &[u8]) -> Result<(), NoMemory>
     requires { path_of text.now ≡ Ok text.now }
-    ensures { IfOk result (λ dir. dir ≡ text.now) }
+    ensures { OnOk result (dirs.new ≡ dirs.old ++ text.now ∷ []) }
 {
     match Abs::read(alloc, text) {
-        Ok(dir) => Ok(dir),
-        Err(fault) => Err(only_memory(fault)),
-    }
-}
-
-/// The one fault of a path that can be read.
-fn only_memory(fault: PathFault) -> NoMemory
-    requires { fault ≡ PathFault.NoMemory }
-{
-    match fault {
-        PathFault::NoMemory => NoMemory,
-        _ => unreachable!(),
+        Ok(dir) => dirs.push(dir),
+        Err(_) => Err(NoMemory),
     }
 }

@@ -7,15 +7,15 @@ ghost use Rattle.appdir_cli.specs.Packing.{HasBytes, Packs, app_run_of, package_
 ghost use Rattle.appdir_cli.specs.Steps.{IsStepAnswer};
 
 use crate::answer::{Answer, Stop, Whole};
-use crate::fitting::is_all_listed;
 use crate::loading::load_program;
-use crate::reading::read_whole;
-use crate::refusal::{Refusal, done_text};
 use crate::words::Quick;
+use listed_runs::is_all_listed;
 use load_model::{List, LoadRefusal, Text};
 use path_text::{Abs, NoMemory, Rel};
 use ports::{Found, MemFile, ProbeStop, Tree};
+use refusals::{Refusal, done_text};
 use std::alloc::Global;
+use tree_opener::{ReadStop, read_whole};
 
 /// `quick PROGRAM OUT [NAME ..]`: packs one program without a desktop entry.
 pub fn quick<T: Tree>(alloc: Global, tree: &mut T, command: &Quick) -> Result<Answer, Stop>
@@ -57,7 +57,8 @@ fn read_program<T: Tree>(alloc: Global, tree: &mut T, path: &Abs) -> Result<Text
     match tree.probe(alloc, path) {
         Ok(Found::File { len, .. }) => match read_whole(alloc, tree, path, len) {
             Ok(bytes) => Ok(Text::from_vec(bytes)),
-            Err(stop) => Err(stop),
+            Err(ReadStop::Failed) => Err(Stop::Read),
+            Err(ReadStop::NoMemory) => Err(Stop::NoMemory),
         },
         Ok(Found::Absent) => match path.copy(alloc) {
             Ok(path) => Err(Stop::Refused(Refusal::Load(LoadRefusal::NoProgram(path)))),
@@ -74,11 +75,10 @@ fn package(alloc: Global, command: &Quick, bytes: Text, count: usize) -> Result<
 {
     let mut items = List::new(alloc);
     items.push(app_run(alloc, bytes)?)?;
-    let hosts = if count > 0 { count - 1 } else { 0 };
     Ok(Whole {
         place: command.out.copy(alloc)?,
         items,
-        line: done_text(alloc, 1, 0, hosts)?,
+        line: done_text(alloc, 1, 0, count.saturating_sub(1))?,
     })
 }
 

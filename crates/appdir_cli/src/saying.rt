@@ -3,9 +3,9 @@
 ghost use Rattle.std.specs.Prelude.{◌≤◌};
 ghost use Rattle.appdir_cli.specs.Saying.{IsRefusal, IsSaid};
 
-use crate::refusal::{Refusal, refusal_text};
 use crate::status::Status;
 use ports::Sink;
+use refusals::{Refusal, refusal_text};
 use std::alloc::Global;
 
 /// Prints the line of a refusal.

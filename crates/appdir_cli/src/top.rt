@@ -9,11 +9,11 @@ ghost use Rattle.appdir_cli.specs.TwoWorlds.{IsPortable, RunsAlike};
 ghost use Rattle.appdir_cli.specs.Words.{command_of, texts};
 
 use crate::obeying::obey;
-use crate::refusal::usage_line;
 use crate::saying::say;
 use crate::status::Status;
 use crate::words::read_words;
 use ports::{OutDir, Sink, Tree};
+use refusals::usage_line;
 use std::alloc::Global;
 
 /// Does what the words ask for: reads files from the tree, writes an AppDir into the folder, and

@@ -1,7 +1,7 @@
 use Rattle.std.proofs.Common.{◌≡◌, ◌∙◌, ◌-◌, ap, sym, length}
-use Rattle.appdir_cli.specs.Fitting.{run_is_all_listed}
+use Rattle.listed_runs.specs.Fitting.{run_is_all_listed}
 use Rattle.appdir_cli.specs.Packing.{package_with}
-use Rattle.appdir_cli.proofs.PackingLemmas.{bytes_stop, load_stops, packaged, unlisted}
+use Rattle.appdir_cli.proofs.PackingLemmas.{both_read, bytes_stop, load_stops, packaged, unlisted}
 use Rattle.appdir_cli.proofs.packing.quick.Goals as goal
 
 pub returns-in-Err-clause-answer : goal.returns-in-Err-clause-answer
@@ -16,6 +16,14 @@ returns-in-Ok-false-clause-answer g c world told =
 pub returns-in-Err-read_program-clause-answer : goal.returns-in-Err-read_program-clause-answer
 returns-in-Err-read_program-clause-answer g c =
     bytes_stop (g.T.Tree.seen c.args.tree.now) (g.T.Tree.seen c.load_program.new.tree) (g.T.Tree.seen c.read_program.new.tree) c.args.command.now c.in-Err-read_program.stop c.in-Ok.ensures.only_reads c.in-Err-read_program.ensures.answer
+
+pub returns-in-Err-read_program-clause-only_reads : goal.returns-in-Err-read_program-clause-only_reads
+returns-in-Err-read_program-clause-only_reads g c =
+    both_read (g.T.Tree.seen c.args.tree.now) (g.T.Tree.seen c.load_program.new.tree) (g.T.Tree.seen c.read_program.new.tree) c.load_program.ensures.only_reads c.read_program.ensures.only_reads
+
+pub returns-in-Ok-package-clause-only_reads : goal.returns-in-Ok-package-clause-only_reads
+returns-in-Ok-package-clause-only_reads g c =
+    both_read (g.T.Tree.seen c.args.tree.now) (g.T.Tree.seen c.load_program.new.tree) (g.T.Tree.seen c.read_program.new.tree) c.load_program.ensures.only_reads c.read_program.ensures.only_reads
 
 pub returns-in-Ok-package-clause-answer : goal.returns-in-Ok-package-clause-answer
 returns-in-Ok-package-clause-answer g c world told =

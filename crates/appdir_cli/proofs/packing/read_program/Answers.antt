@@ -1,7 +1,7 @@
 use Rattle.std.proofs.Common.{◌≡◌, ◌∙◌, ap, sym, Some}
 use Rattle.ports.specs.Reading.{bytes_of}
-use Rattle.appdir_cli.specs.Reading.{LiesAt}
-use Rattle.appdir_cli.proofs.OpeningLemmas.{file_found}
+use Rattle.tree_opener.specs.Reading.{LiesAt}
+use Rattle.tree_opener.proofs.OpeningLemmas.{file_found}
 use Rattle.appdir_cli.proofs.packing.read_program.Goals as goal
 
 pub returns-in-Ok-clause-answer : goal.returns-in-Ok-clause-answer

@@ -1,0 +1,2 @@
+pub mod ByNamesLemmas
+pub mod FittingLemmas

@@ -1,0 +1,4 @@
+pub mod KeepingLemmas
+pub mod Lists
+pub mod OpeningLemmas
+pub mod ReadingLemmas
