@@ -5,6 +5,7 @@ use Rattle.ports.specs.declared.folders.MemFile.{MemFile}
 use Rattle.ports.specs.Folder.{Folder}
 use Rattle.ports.specs.View.{View}
 use Rattle.appdir_cli.proofs.PackingLemmas.{packed_or_refused}
+use Rattle.appdir_cli.proofs.ShowingLemmas.{shown_or_refused}
 use Rattle.appdir_cli.specs.ComesTo.{ComesTo}
 use Rattle.appdir_cli.specs.Delivery.{IsFull}
 use Rattle.appdir_cli.specs.Endings.{Ends, EndsFor, EndsUnshaped, Expects, IsComplete, IsGiven, IsRefused, Outside, packing_status}
@@ -12,7 +13,7 @@ use Rattle.appdir_cli.specs.declared.answer.Answer.{Answer}
 use Rattle.appdir_cli.specs.declared.answer.Answer.TheVariants.{Says, Packs}
 use Rattle.appdir_cli.specs.declared.answer.Whole.{Whole}
 use Rattle.appdir_cli.specs.declared.words.Command.{Command}
-use Rattle.appdir_cli.specs.declared.words.Command.TheVariants.{Quick}
+use Rattle.appdir_cli.specs.declared.words.Command.TheVariants.{Quick, Show}
 use Rattle.refusals.specs.declared.refusal.Refusal.{Refusal}
 use Rattle.appdir_cli.specs.declared.status.Status.{Status}
 use Rattle.appdir_cli.specs.declared.status.Status.TheVariants.{Done, Refused, Usage, ReadFailed, WriteFailed, NoMemory, PrintFailed}
@@ -21,10 +22,13 @@ use Rattle.appdir_cli.specs.declared.status.Status.TheVariants.{Done, Refused, U
 pub never_both : (world : World) (command : Command) (answer : Answer) (refusal : Refusal) → ComesTo world command (Ok answer) → ComesTo world command (Err refusal) → ⊥
 never_both world (Quick quick) (Says text) refusal given refused = given
 never_both world (Quick quick) (Packs whole) refusal given refused = packed_or_refused world quick whole refusal given refused
+never_both world (Show show) (Says text) refusal given refused = shown_or_refused world show text refusal given refused
+never_both world (Show show) (Packs whole) refusal given refused = given
 
 -- nor a text and files
 pub one_kind : (world : World) (command : Command) (text : List ℕ) (whole : Whole) → ComesTo world command (Ok (Says text)) → ComesTo world command (Ok (Packs whole)) → ⊥
 one_kind world (Quick quick) text whole says packs = says
+one_kind world (Show show) text whole says packs = packs
 
 full_is_refused : (files : List MemFile) → files ≢ [] → Refused ≡ packing_status files
 full_is_refused [] full = absurd (full refl)

@@ -1,10 +1,11 @@
 -- How a call for a command ends, from how its files were delivered, or from its refusal.
 use Rattle.std.proofs.Common.{ℕ, List, ◌≡◌, inl, inr, refl, sym, subst, Ok, Err}
-use Rattle.appdir_cli.specs.Delivery.{IsDelivered, IsFull, IsWhole}
+use Rattle.appdir_cli.specs.Delivery.{IsAnswered, IsDelivered, IsFull, IsWhole}
 use Rattle.appdir_cli.specs.Endings.{EndsFor, EndsUnshaped, IsDone, IsOutcome, IsRefused, Outside}
 use Rattle.ports.specs.View.{Stays}
 use Rattle.refusals.specs.Lines.{refusal_line, usage_text}
 use Rattle.appdir_cli.specs.Saying.{IsRefusal, IsSaid}
+use Rattle.appdir_cli.specs.declared.answer.Answer.{Answer}
 use Rattle.appdir_cli.specs.declared.answer.Answer.TheVariants.{Packs, Says}
 use Rattle.appdir_cli.specs.declared.answer.Whole.{Whole}
 use Rattle.appdir_cli.specs.declared.words.Command.{Command}
@@ -20,7 +21,7 @@ module _ (command : Command) (before after : Outside) (whole : Whole) (outcome :
   over : IsFull whole before.folder after.folder → IsRefused command before after (refusal_line (NotEmpty whole.place))
   over full = record { refusal = NotEmpty whole.place; line = refl; reason = inr (record { whole = whole; outcome = outcome; not_empty = refl; full = full }) }
 
-  pub delivered_ends : (status : Status) → IsDelivered whole before.folder after.folder before.sink after.sink status → EndsFor command before after status
+  delivered_ends : (status : Status) → IsDelivered whole before.folder after.folder before.sink after.sink status → EndsFor command before after status
   delivered_ends Done h = (whole.line, done h.0, h.1)
   delivered_ends Refused h = (refusal_line (NotEmpty whole.place), over h.0, h.1)
   delivered_ends WriteFailed h = record { whole = whole; outcome = outcome; cut_off = h.0; silent = h.1 }
@@ -49,7 +50,7 @@ module _ (command : Command) (before after : Outside) (refusal : Refusal) (outco
       ]
 
 module _ (command : Command) (before after : Outside) (text : List ℕ) (outcome : IsOutcome command before (Ok (Says text))) (untouched : Stays before.folder after.folder) where
-  pub said_ends : (line : List ℕ) (status : Status) → line ≡ text → IsSaid line Done before.sink after.sink status → EndsFor command before after status
+  said_ends : (line : List ℕ) (status : Status) → line ≡ text → IsSaid line Done before.sink after.sink status → EndsFor command before after status
   said_ends line status is h =
       let P : Status → Type 0 = λ s. EndsFor command before after s in
       let done : IsDone command before after line = record { answer = Says text; outcome = outcome; line = is; given = untouched } in
@@ -57,6 +58,11 @@ module _ (command : Command) (before after : Outside) (text : List ℕ) (outcome
         | inl took ↦ subst P (sym took.0) (line, done, took.1)
         | inr part ↦ subst P (sym part.0) (inl (line, done, part.1))
       ]
+
+-- how a call for a command ends that has an answer
+pub answer_ends : (command : Command) (before after : Outside) (answer : Answer) → IsOutcome command before (Ok answer) → (status : Status) → IsAnswered answer before.folder after.folder before.sink after.sink status → EndsFor command before after status
+answer_ends command before after (Says text) outcome status h = said_ends command before after text outcome h.0 text status refl h.1
+answer_ends command before after (Packs whole) outcome status h = delivered_ends command before after whole outcome status h
 
 -- how a call for no command ends
 pub unshaped_ends : (before after : Outside) (line : List ℕ) (status : Status) → Stays before.folder after.folder → line ≡ usage_text → IsSaid line Usage before.sink after.sink status → EndsUnshaped before after status

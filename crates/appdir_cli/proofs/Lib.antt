@@ -5,5 +5,7 @@ pub mod EndingLemmas
 pub mod FolderLemmas
 pub mod Lists
 pub mod PackingLemmas
+pub mod ShowingLemmas
 pub mod StopLemmas
 pub mod TwoWorldsLemmas
+pub mod VersionLemmas

@@ -1,6 +1,7 @@
 -- What packing a program comes to, from its steps; and it is one of its outcomes alone.
-use Rattle.std.proofs.Common.{ℕ, ◌-◌, List, [], ◌≡◌, inl, sym, ap, subst, ◌∙◌, arith, length, true, false, None, Ok, Err}
-use Rattle.load_model.proofs.LoadLists.{at_most_one, list_or_stop}
+use Rattle.std.proofs.Common.{ℕ, ◌-◌, List, [], ◌≡◌, inl, sym, ap, subst, ◌∙◌, arith, true, false, None, Result, Ok, Err}
+use Rattle.answers.specs.Told.{WhereTold}
+use Rattle.load_model.proofs.LoadLists.{at_most_one}
 use Rattle.load_model.specs.Faces.{face_or_flaw}
 use Rattle.load_model.specs.Loads.{program_at, program_by}
 use Rattle.load_model.specs.World.{World, file_at}
@@ -8,8 +9,10 @@ use Rattle.load_model.specs.declared.refusals.LoadRefusal.TheVariants.{NoProgram
 use Rattle.ports.specs.View.{OnlyReads, View}
 use Rattle.listed_runs.proofs.FittingLemmas.{listed_in_run}
 use Rattle.tree_opener.proofs.OpeningLemmas.{kind_absent}
-use Rattle.listed_runs.specs.Fitting.{is_all_listed, run_is_all_listed}
-use Rattle.appdir_cli.specs.Packing.{HasBytes, HasList, IsPackage, IsUnlisted, LoadsAs, Packs, default_setting, package_with}
+use Rattle.listed_runs.specs.Fitting.{is_all_listed}
+use Rattle.appdir_cli.proofs.VersionLemmas.{met_or_refused}
+use Rattle.appdir_cli.specs.Packing.{AreVersionsMet, CountsListed, HasBytes, HasList, IsCounted, IsListed, IsPackage, LoadsAs, Packs, package_with}
+use Rattle.appdir_cli.specs.Settings.{default_setting}
 use Rattle.appdir_cli.specs.Steps.{IsStepAnswer}
 use Rattle.appdir_cli.specs.declared.answer.Answer.{Answer}
 use Rattle.appdir_cli.specs.declared.answer.Stop.{Stop}
@@ -22,7 +25,7 @@ use Rattle.appdir_cli.specs.declared.words.Quick.{Quick}
 
 pub packed_or_refused : (world : World) (command : Quick) (whole : Whole) (refusal : Refusal) → IsPackage world command whole → Packs world command (Err refusal) → ⊥
 packed_or_refused world command whole (Load refusal) packed refused =
-    list_or_stop face_or_flaw default_setting world command.program [] packed.loads.loaded packed.loads.ends refusal packed.loads.list refused
+    met_or_refused default_setting world command.program packed.loads.loaded packed.loads.ends packed.met.faces packed.met.run refusal packed.loads.list packed.met.run_is packed.met.met refused
 packed_or_refused world command whole NotBuilt packed refused =
     let same = at_most_one face_or_flaw default_setting world command.program [] packed.loads.loaded refused.loads.loaded packed.loads.ends refused.loads.ends packed.loads.list refused.loads.list in
     let listed : is_all_listed command.names refused.loads.loaded ≡ true = ap (is_all_listed command.names) (sym same.0) ∙ packed.listed in
@@ -30,32 +33,58 @@ packed_or_refused world command whole NotBuilt packed refused =
     cc
 packed_or_refused world command whole (NotEmpty place) packed refused = refused
 
--- a program that is not loaded ends the command
-pub load_stops : (before after : View World) (command : Quick) (stop : Stop) → IsStepAnswer {A = LoadedProgram} before after (λ world outcome. LoadsAs world command.program outcome) (Err stop) → IsStepAnswer {A = Answer} before after (λ world outcome. Packs world command outcome) (Err stop)
+-- a program that is not loaded, or not listed, ends the command
+pub load_stops : (before after : View World) (command : Quick) (stop : Stop) → IsStepAnswer {A = LoadedProgram} before after (λ world outcome. LoadsAs world command.program outcome) (Err stop) → IsStepAnswer {A = ℕ} before after (λ world outcome. CountsListed world command outcome) (Err stop)
 load_stops before after command (Refused (Load refusal)) h = h
 load_stops before after command (Refused NotBuilt) h = λ world told. absurd (h world told)
 load_stops before after command (Refused (NotEmpty place)) h = h
 load_stops before after command Read h = h
 load_stops before after command NoMemory h = h
 
+pub count_stops : (before after : View World) (command : Quick) (stop : Stop) → IsStepAnswer {A = ℕ} before after (λ world outcome. CountsListed world command outcome) (Err stop) → IsStepAnswer {A = Answer} before after (λ world outcome. Packs world command outcome) (Err stop)
+count_stops before after command (Refused (Load refusal)) h = h
+count_stops before after command (Refused NotBuilt) h = h
+count_stops before after command (Refused (NotEmpty place)) h = h
+count_stops before after command Read h = h
+count_stops before after command NoMemory h = h
+
 abbrev has_list : (world : World) (command : Quick) (loaded : LoadedProgram) → LoadsAs world command.program (Ok loaded) → HasList world command.program
-has_list world command loaded loads = record { loaded = loads.loaded; ends = loads.ends; list = loads.list }
+has_list world command loaded loads = record { loaded = loads.loads.loaded; ends = loads.loads.ends; list = loads.loads.list }
 
--- a list that is not all on the list of names
-pub unlisted : (world : World) (command : Quick) (loaded : LoadedProgram) → LoadsAs world command.program (Ok loaded) → run_is_all_listed command.names loaded.faces loaded.run ≡ false → IsUnlisted world command
-unlisted world command loaded loads h = record {
-  loads = has_list world command loaded loads;
-  unlisted = sym (listed_in_run command.names loaded.faces loads.loaded loads.ends loaded.run loads.run_is) ∙ h;
-}
+abbrev versions_met : (world : World) (command : Quick) (loaded : LoadedProgram) (loads : LoadsAs world command.program (Ok loaded)) → AreVersionsMet loads.loads.loaded loads.loads.ends
+versions_met world command loaded loads = record { faces = loaded.faces; run = loaded.run; run_is = loads.loads.run_is; met = loads.met }
 
--- a list that is, with the bytes of the program
-pub packaged : (world : World) (command : Quick) (loaded : LoadedProgram) (bytes : List ℕ) (whole : Whole) → LoadsAs world command.program (Ok loaded) → run_is_all_listed command.names loaded.faces loaded.run ≡ true → HasBytes world command.program (Ok bytes) → whole ≡ package_with command bytes (length loaded.run.objs - 1) → IsPackage world command whole
-packaged world command loaded bytes whole loads h has is = record {
-  loads = has_list world command loaded loads;
-  listed = sym (listed_in_run command.names loaded.faces loads.loaded loads.ends loaded.run loads.run_is) ∙ h;
+-- what is counted of the loaded program is counted of the world's
+pub counted : (before after : View World) (command : Quick) (loaded : LoadedProgram) (result : Result ℕ Stop) → WhereTold before.told (λ world. LoadsAs world command.program (Ok loaded)) → IsCounted command.names loaded result → IsStepAnswer {A = ℕ} before after (λ world outcome. CountsListed world command outcome) result
+counted before after command loaded (Ok count) there h = λ world told.
+    let loads : LoadsAs world command.program (Ok loaded) = there world told in
+    record {
+      loads = has_list world command loaded loads;
+      met = versions_met world command loaded loads;
+      listed = sym (listed_in_run command.names loaded.faces loads.loads.loaded loads.loads.ends loaded.run loads.loads.run_is) ∙ h.0;
+      count_is = h.1 ∙ loads.loads.run_is.count;
+    }
+counted before after command loaded (Err (Refused NotBuilt)) there h = λ world told.
+    let loads : LoadsAs world command.program (Ok loaded) = there world told in
+    record {
+      loads = has_list world command loaded loads;
+      met = versions_met world command loaded loads;
+      unlisted = sym (listed_in_run command.names loaded.faces loads.loads.loaded loads.loads.ends loaded.run loads.loads.run_is) ∙ h;
+    }
+counted before after command loaded (Err (Refused (Load refusal))) there h = absurd h
+counted before after command loaded (Err (Refused (NotEmpty place))) there h = absurd h
+counted before after command loaded (Err Read) there h = absurd h
+counted before after command loaded (Err NoMemory) there h = tt
+
+-- a list that is all listed, with the bytes of the program
+pub packaged : (world : World) (command : Quick) (count : ℕ) (bytes : List ℕ) (whole : Whole) → IsListed world command count → HasBytes world command.program (Ok bytes) → whole ≡ package_with command bytes (count - 1) → IsPackage world command whole
+packaged world command count bytes whole listed has is = record {
+  loads = listed.loads;
+  met = listed.met;
+  listed = listed.listed;
   file = has.0;
   lies = has.1;
-  whole_is = is ∙ ap (λ b. package_with command b (length loaded.run.objs - 1)) has.2 ∙ ap (λ n. package_with command has.0.bytes (n - 1)) loads.run_is.count;
+  whole_is = is ∙ ap (λ b. package_with command b (count - 1)) has.2 ∙ ap (λ n. package_with command has.0.bytes (n - 1)) listed.count_is;
 }
 
 -- two steps that read alone are one
@@ -70,7 +99,7 @@ unfolding program_at
 not_there world path h = ap (program_by face_or_flaw default_setting world path) (kind_absent world path h)
 
 gone : (world : World) (command : Quick) (refusal : Refusal) → HasBytes world command.program (Err refusal) → Packs world command (Err refusal)
-gone world command refusal h = subst (λ (r : Refusal). Packs world command (Err r)) (sym h.0) (inl (not_there world command.program h.1))
+gone world command refusal h = subst (λ (r : Refusal). Packs world command (Err r)) (sym h.0) (inl (inl (not_there world command.program h.1)))
 
 -- a program that is not read ends the command
 pub bytes_stop : (before middle after : View World) (command : Quick) (stop : Stop) → OnlyReads before middle → IsStepAnswer {A = List ℕ} middle after (λ world outcome. HasBytes world command.program outcome) (Err stop) → IsStepAnswer {A = Answer} before after (λ world outcome. Packs world command outcome) (Err stop)

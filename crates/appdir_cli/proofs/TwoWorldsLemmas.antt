@@ -19,17 +19,19 @@ use Rattle.ports.specs.View.{View}
 use Rattle.appdir_cli.specs.Delivery.{IsWhole, filled}
 use Rattle.appdir_cli.specs.Endings.{Ends, IsGiven, Outside}
 use Rattle.listed_runs.proofs.ByNamesLemmas.{goes_by_names}
-use Rattle.appdir_cli.specs.Packing.{IsPackage, Packs as IsPackedBy, default_setting}
-use Rattle.appdir_cli.specs.TwoWorlds.{IsPackable, IsPortable, RunsAlike, RunsOnHosts}
-use Rattle.appdir_cli.specs.Words.{command_of, default_names_list, is_unshaped, names_of, path_told, quick_of, quick_with, shape_of}
+use Rattle.appdir_cli.specs.Packing.{IsPackage, Packs as IsPackedBy}
+use Rattle.appdir_cli.specs.Settings.{default_setting}
+use Rattle.appdir_cli.specs.TwoWorlds.{IsPackable, IsPortable, IsPortableFor, RunsAlike, RunsOnHosts}
+use Rattle.appdir_cli.specs.Words.{command_of, default_names_list, is_unshaped, names_of, path_told, quick_asked, quick_of, quick_with, shape_of, show_asked, show_of}
 use Rattle.appdir_cli.specs.declared.answer.Answer.{Answer}
 use Rattle.appdir_cli.specs.declared.answer.Answer.TheVariants.{Says, Packs}
 use Rattle.appdir_cli.specs.declared.answer.Whole.{Whole}
 use Rattle.appdir_cli.specs.declared.status.Status.{Status}
 use Rattle.appdir_cli.specs.declared.status.Status.TheVariants.{Done}
 use Rattle.appdir_cli.specs.declared.words.Command.{Command}
-use Rattle.appdir_cli.specs.declared.words.Command.TheVariants.{Quick as AsksQuick}
+use Rattle.appdir_cli.specs.declared.words.Command.TheVariants.{Quick as AsksQuick, Show as AsksShow}
 use Rattle.appdir_cli.specs.declared.words.Quick.{Quick}
+use Rattle.appdir_cli.specs.declared.words.Show.{Show}
 
 pub runs_on_hosts : (world : World) (command : Quick) (start : WorldFile) (loaded : Loaded) → All IsFileName command.names → IsPackable world command start loaded → RunsOnHosts start loaded
 runs_on_hosts world command start loaded plain packable host setting place copy machine carried =
@@ -74,13 +76,21 @@ asked_names words (Some quick) command e h =
     let same : quick ≡ command = cc in
     quick_names words command (e ∙ ap Some same)
 
-verb_names : (b : Bool) (words : List (List ℕ)) (command : Quick) → cond b (option_map (λ q. AsksQuick q) (quick_of words)) None ≡ Some (AsksQuick command) → All IsFileName command.names
-verb_names true words command h = asked_names words (quick_of words) command refl h
-verb_names false words command h = cc
+not_shown : (show : Option Show) (command : Quick) → option_map (λ s. AsksShow s) show ≡ Some (AsksQuick command) → ⊥
+not_shown None command h = absurd (cc)
+not_shown (Some show) command h = absurd (cc)
+
+not_quick : (b : Bool) (words : List (List ℕ)) (command : Quick) → cond b (show_asked words) None ≡ Some (AsksQuick command) → ⊥
+not_quick true words command h = not_shown (show_of words) command h
+not_quick false words command h = absurd (cc)
+
+verb_names : (b c : Bool) (words : List (List ℕ)) (command : Quick) → cond b (quick_asked words) (cond c (show_asked words) None) ≡ Some (AsksQuick command) → All IsFileName command.names
+verb_names true c words command h = asked_names words (quick_of words) command refl h
+verb_names false c words command h = absurd (not_quick c words command h)
 
 shape_names : (words : List (List ℕ)) (command : Quick) → shape_of words ≡ Some (AsksQuick command) → All IsFileName command.names
 shape_names [] command h = cc
-shape_names (verb ∷ words) command h = verb_names (bytes_eq verb (codes "quick")) words command h
+shape_names (verb ∷ words) command h = verb_names (bytes_eq verb (codes "quick")) (bytes_eq verb (codes "show")) words command h
 
 word_names : (b : Bool) (words : List (List ℕ)) (command : Quick) → cond b None (shape_of words) ≡ Some (AsksQuick command) → All IsFileName command.names
 word_names true words command h = cc
@@ -96,12 +106,10 @@ runs_alike words world command start loaded asked packable = runs_on_hosts world
 
 -- ---- what a call has written when it is done
 
-package_portable : (words : List (List ℕ)) (command : Quick) (world : World) (whole : Whole) (before after : View Folder) → command_of words ≡ Some (AsksQuick command) → IsPackage world command whole → IsWhole whole before after → IsPortable (command_of words) world before after
+package_portable : (words : List (List ℕ)) (command : Quick) (world : World) (whole : Whole) (before after : View Folder) → command_of words ≡ Some (AsksQuick command) → IsPackage world command whole → IsWhole whole before after → IsPortableFor command world before after
 package_portable words command world whole before after asked wrapped written =
     let packable : IsPackable world command wrapped.file wrapped.loads.loaded = record { lies = wrapped.lies; loads = wrapped.loads; loaded_is = refl; listed = wrapped.listed } in
     record {
-      command = command;
-      quick = asked;
       start = wrapped.file;
       loaded = wrapped.loads.loaded;
       packable = packable;
@@ -109,14 +117,15 @@ package_portable words command world whole before after asked wrapped written =
       hosts = runs_on_hosts world command wrapped.file wrapped.loads.loaded (command_names words command asked) packable;
     }
 
-answer_portable : (words : List (List ℕ)) (command : Quick) (world : World) (answer : Answer) (before after : View Folder) → command_of words ≡ Some (AsksQuick command) → IsPackedBy world command (Ok answer) → IsGiven answer before after → IsPortable (command_of words) world before after
+answer_portable : (words : List (List ℕ)) (command : Quick) (world : World) (answer : Answer) (before after : View Folder) → command_of words ≡ Some (AsksQuick command) → IsPackedBy world command (Ok answer) → IsGiven answer before after → IsPortableFor command world before after
 answer_portable words command world (Says text) before after asked packed given = absurd packed
 answer_portable words command world (Packs whole) before after asked packed given = package_portable words command world whole before after asked packed given
 
-done_portable : (words : List (List ℕ)) (asked : Option Command) (before after : Outside) → command_of words ≡ asked → Ends asked before after Done → WhereTold before.tree.told (λ world. IsPortable (command_of words) world before.folder after.folder)
-done_portable words None before after asked ends world told = absurd ends
-done_portable words (Some (AsksQuick command)) before after asked ends world told =
+done_portable : (words : List (List ℕ)) (command : Quick) (before after : Outside) → command_of words ≡ Some (AsksQuick command) → Ends (Some (AsksQuick command)) before after Done → WhereTold before.tree.told (λ world. IsPortableFor command world before.folder after.folder)
+done_portable words command before after asked ends world told =
     answer_portable words command world ends.1.answer before.folder after.folder asked (ends.1.outcome world told) ends.1.given
 
 pub ended_portable : (words : List (List ℕ)) (before after : Outside) (status : Status) → Ends (command_of words) before after status → status ≡ Done → WhereTold before.tree.told (λ world. IsPortable (command_of words) world before.folder after.folder)
-ended_portable words before after status ends done = done_portable words (command_of words) before after refl (subst (λ (s : Status). Ends (command_of words) before after s) done ends)
+unfolding IsPortable
+ended_portable words before after status ends done world told command asked =
+    done_portable words command before after asked (subst (λ (c : Option Command). Ends c before after Done) asked (subst (λ (s : Status). Ends (command_of words) before after s) done ends)) world told

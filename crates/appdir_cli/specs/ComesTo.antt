@@ -3,10 +3,12 @@
 use Rattle.std.specs.Prelude.{Result}
 use Rattle.load_model.specs.World.{World}
 use Rattle.appdir_cli.specs.Packing.{Packs as IsPackedBy}
+use Rattle.appdir_cli.specs.Showing.{Shows as IsShownBy}
 use Rattle.appdir_cli.specs.declared.answer.Answer.{Answer}
 use Rattle.refusals.specs.declared.refusal.Refusal.{Refusal}
 use Rattle.appdir_cli.specs.declared.words.Command.{Command}
-use Rattle.appdir_cli.specs.declared.words.Command.TheVariants.{Quick}
+use Rattle.appdir_cli.specs.declared.words.Command.TheVariants.{Quick, Show}
 
 abbrev pub ComesTo : World → Command → Result Answer Refusal → Type 0
 ComesTo world (Quick command) outcome = IsPackedBy world command outcome
+ComesTo world (Show command) outcome = IsShownBy world command outcome

@@ -6,7 +6,9 @@ use Rattle.ports.specs.Folder.{Folder, with_files, with_root}
 use Rattle.ports.specs.View.{View, Became, Changed, Stays}
 use Rattle.ports.specs.declared.folders.MemFile.{MemFile}
 use Rattle.refusals.specs.Lines.{refusal_line}
-use Rattle.appdir_cli.specs.Saying.{Took, TookPart}
+use Rattle.appdir_cli.specs.Saying.{IsSaid, Took, TookPart}
+use Rattle.appdir_cli.specs.declared.answer.Answer.{Answer}
+use Rattle.appdir_cli.specs.declared.answer.Answer.TheVariants.{Says, Packs}
 use Rattle.appdir_cli.specs.declared.answer.Whole.{Whole}
 use Rattle.refusals.specs.declared.refusal.Refusal.TheVariants.{NotEmpty}
 use Rattle.appdir_cli.specs.declared.status.Status.{Status}
@@ -62,3 +64,11 @@ IsDelivered whole folder folder' sink sink' PrintFailed =
     ⊎ IsFull whole folder folder' × TookPart (refusal_line (NotEmpty whole.place)) sink sink'
 IsDelivered whole folder folder' sink sink' Usage = ⊥
 IsDelivered whole folder folder' sink sink' ReadFailed = ⊥
+
+-- How giving an answer ends: a text is said, and files are delivered.
+abbrev pub IsAnswered : Answer → View Folder → View Folder → View (List ℕ) → View (List ℕ)
+    → Status → Type 0
+IsAnswered (Says text) folder folder' sink sink' status =
+    Stays folder folder' × IsSaid text Done sink sink' status
+IsAnswered (Packs whole) folder folder' sink sink' status =
+    IsDelivered whole folder folder' sink sink' status

@@ -4,6 +4,8 @@ pub mod Endings
 pub mod Loading
 pub mod Packing
 pub mod Saying
+pub mod Settings
+pub mod Showing
 pub mod Status
 pub mod Steps
 pub mod Stops

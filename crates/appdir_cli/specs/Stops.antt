@@ -1,9 +1,11 @@
 -- Why a program that is not loaded ends a command.
 use Rattle.load_model.specs.declared.opening.OpenFault.{OpenFault}
 use Rattle.load_model.specs.declared.opening.OpenFault.TheVariants.{Read as ReadFault, Damaged as DamagedFile, NoMemory as NoMemoryOpen}
-use Rattle.load_model.specs.declared.refusals.LoadRefusal.TheVariants.{NoProgram, Damaged, RelativeNeed, TokenInNeed, RelativeItem, TokenUnset, MissingLibrary, TooManyObjects}
+use Rattle.load_model.specs.declared.refusals.LoadRefusal.TheVariants.{NoProgram, Damaged, RelativeNeed, TokenInNeed, RelativeItem, TokenUnset, MissingLibrary, TooManyObjects, VersionFileUnloaded, UnsatisfiedVersion}
 use Rattle.load_requests.specs.declared.stops.LoadStop.{LoadStop}
 use Rattle.load_requests.specs.declared.stops.LoadStop.TheVariants.{NoProgram as StopNoProgram, MissingLibrary as StopMissing, RelativeNeed as StopRelativeNeed, TokenInNeed as StopTokenInNeed, TooManyObjects as StopTooMany, Search as StopSearch, NoMemory as NoMemoryLoad}
+use Rattle.loader_replay.specs.declared.stops.ReplayStop.{ReplayStop}
+use Rattle.loader_replay.specs.declared.stops.ReplayStop.TheVariants.{Load as StopLoad, Unloaded, Unsatisfied, NoMemory as NoMemoryReplay}
 use Rattle.search_paths.specs.declared.hits.SearchStop.{SearchStop}
 use Rattle.search_paths.specs.declared.hits.SearchStop.TheVariants.{RelativeItem as StopRelativeItem, TokenUnset as StopTokenUnset, Open, NoMemory as NoMemorySearch}
 use Rattle.appdir_cli.specs.declared.answer.Stop.{Stop}
@@ -29,3 +31,11 @@ stop_of_load (StopTokenInNeed name by) = Refused (Load (TokenInNeed name by))
 stop_of_load (StopTooMany path) = Refused (Load (TooManyObjects path))
 stop_of_load (StopSearch stop) = stop_of_search stop
 stop_of_load NoMemoryLoad = NoMemory
+
+-- The same where its versions may not be met.
+abbrev pub stop_of_replay : ReplayStop → Stop
+stop_of_replay (StopLoad stop) = stop_of_load stop
+stop_of_replay (Unloaded by file) = Refused (Load (VersionFileUnloaded by file))
+stop_of_replay (Unsatisfied by file version) =
+    Refused (Load (UnsatisfiedVersion by file version))
+stop_of_replay NoMemoryReplay = NoMemory

@@ -43,14 +43,18 @@ RunsAlike asked world =
 
 -- The files that the folder gained are the copy of the program alone, which can be packed in this
 -- world; and on every such host it loads the same.
-pub record IsPortable (asked : Option Command) (world : World) (before after : View Folder)
-    : Type 0 where
-  pub command : Quick
-  pub quick : asked ≡ Some (AsksQuick command)
-  pub start : WorldFile
-  pub loaded : Loaded
-  pub packable : IsPackable world command start loaded
-  pub files : WhereTold before.told
-      (λ old. (latest : Folder) × (after.told ≡ Some latest)
-      × (latest.finished ≡ old.finished ++ app_run_of start.bytes ∷ []))
-  pub hosts : RunsOnHosts start loaded
+pub record IsPortableFor (command : Quick) (world : World) (before after : View Folder) : Type 0
+  where
+    pub start : WorldFile
+    pub loaded : Loaded
+    pub packable : IsPackable world command start loaded
+    pub files : WhereTold before.told
+        (λ old. (latest : Folder) × (after.told ≡ Some latest)
+        × (latest.finished ≡ old.finished ++ app_run_of start.bytes ∷ []))
+    pub hosts : RunsOnHosts start loaded
+
+-- What a done call for packing has written.
+unfoldable pub IsPortable : Option Command → World → View Folder → View Folder → Type 0
+IsPortable asked world before after =
+    (command : Quick) → asked ≡ Some (AsksQuick command)
+    → IsPortableFor command world before after

@@ -6,9 +6,11 @@ use Rattle.std.specs.Result.{result_ok}
 use Rattle.std.specs.Str.{bytes_eq}
 use Rattle.path_text.specs.Path.{path_of}
 use Rattle.path_text.specs.FileName.{is_file_name_text}
+use Rattle.appdir_cli.specs.Settings.{default_dirs}
 use Rattle.appdir_cli.specs.declared.words.Command.{Command}
-use Rattle.appdir_cli.specs.declared.words.Command.TheVariants.{Quick as AsksQuick}
+use Rattle.appdir_cli.specs.declared.words.Command.TheVariants.{Quick as AsksQuick, Show as AsksShow}
 use Rattle.appdir_cli.specs.declared.words.Quick.{Quick}
+use Rattle.appdir_cli.specs.declared.words.Show.{Show}
 
 -- The words as texts.
 abbrev pub texts : List (String Global) → List (List ℕ)
@@ -50,10 +52,40 @@ abbrev pub quick_of : List (List ℕ) → Option Quick
 quick_of (program ∷ out ∷ names) = quick_with (path_told program) (path_told out) names
 quick_of _ = None
 
+-- The words DIR, or the default directories where there are none.
+abbrev pub dirs_of : List (List ℕ) → List (List ℕ)
+dirs_of [] = default_dirs
+dirs_of (dir ∷ dirs) = dir ∷ dirs
+
+-- The paths that these texts read as, where all do.
+abbrev pub with_path : Option (List ℕ) → Option (List (List ℕ)) → Option (List (List ℕ))
+with_path (Some path) (Some paths) = Some (path ∷ paths)
+with_path _ _ = None
+
+unfoldable pub paths_told : List (List ℕ) → Option (List (List ℕ))
+paths_told [] = Some []
+paths_told (text ∷ texts) = with_path (path_told text) (paths_told texts)
+
+abbrev pub show_with : Option (List ℕ) → Option (List (List ℕ)) → Option Show
+show_with (Some p) (Some dirs) = Some (record { program = p; dirs = dirs_of dirs })
+show_with _ _ = None
+
+-- The shape PROGRAM [DIR ..].
+abbrev pub show_of : List (List ℕ) → Option Show
+show_of (program ∷ dirs) = show_with (path_told program) (paths_told dirs)
+show_of [] = None
+
+-- What the words behind a verb ask for.
+abbrev pub quick_asked : List (List ℕ) → Option Command
+quick_asked words = option_map (λ quick. AsksQuick quick) (quick_of words)
+
+abbrev pub show_asked : List (List ℕ) → Option Command
+show_asked words = option_map (λ show. AsksShow show) (show_of words)
+
 abbrev pub shape_of : List (List ℕ) → Option Command
 shape_of (verb ∷ words) =
-    cond (bytes_eq verb (codes "quick"))
-    (option_map (λ quick. AsksQuick quick) (quick_of words)) None
+    cond (bytes_eq verb (codes "quick")) (quick_asked words)
+    (cond (bytes_eq verb (codes "show")) (show_asked words) None)
 shape_of [] = None
 
 -- The command that the words have the shape of, or none.

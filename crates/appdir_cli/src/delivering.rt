@@ -1,9 +1,9 @@
-//! Writing files into a folder, and the line that says it. Definitions: `specs/Delivery.antt`.
+//! Giving an answer: saying its text, or writing its files into a folder and saying the line. Definitions: `specs/Delivery.antt`.
 
 ghost use Rattle.std.specs.Prelude.{◌≤◌};
-ghost use Rattle.appdir_cli.specs.Delivery.{IsDelivered};
+ghost use Rattle.appdir_cli.specs.Delivery.{IsAnswered, IsDelivered};
 
-use crate::answer::Whole;
+use crate::answer::{Answer, Whole};
 use crate::saying::say;
 use crate::status::Status;
 use crate::writing::write_items;
@@ -11,14 +11,22 @@ use ports::{OutDir, RootState, Sink};
 use refusals::not_empty_text;
 use std::alloc::Global;
 
+/// Says the text of an answer, or delivers its files.
+pub fn give<O: OutDir, S: Sink>(alloc: Global, answer: &Answer, out: &mut O, sink: &mut S) -> Status
+    ensures given { IsAnswered answer.now (O.seen out.old) (O.seen out.new)
+        (S.seen sink.old) (S.seen sink.new) result }
+    ensures folder_faults { (O.seen out.old).faults ≤ (O.seen out.new).faults }
+    ensures sink_faults { (S.seen sink.old).faults ≤ (S.seen sink.new).faults }
+{
+    match answer {
+        Answer::Says(text) => say(sink, text.as_bytes(), Status::Done),
+        Answer::Packs(whole) => deliver(alloc, whole, out, sink),
+    }
+}
+
 /// Writes the files into an empty folder, and says the line. What needs memory comes before the
 /// folder is opened.
-pub fn deliver<O: OutDir, S: Sink>(
-    alloc: Global,
-    whole: &Whole,
-    out: &mut O,
-    sink: &mut S,
-) -> Status
+fn deliver<O: OutDir, S: Sink>(alloc: Global, whole: &Whole, out: &mut O, sink: &mut S) -> Status
     ensures delivered { IsDelivered whole.now (O.seen out.old) (O.seen out.new)
         (S.seen sink.old) (S.seen sink.new) result }
     ensures folder_faults { (O.seen out.old).faults ≤ (O.seen out.new).faults }

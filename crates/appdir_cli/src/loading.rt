@@ -1,27 +1,28 @@
-//! The load list of a program, over the tree. Definitions: `specs/Packing.antt` (`LoadsAs`) and
-//! `specs/Stops.antt`.
+//! The load list of a program, over the tree. Definitions: `specs/Packing.antt` (`LoadsAs`),
+//! `specs/Loading.antt` and `specs/Stops.antt`.
 
-ghost use Rattle.std.specs.Prelude.{◌≡◌, ◌++◌, ◌∷◌, [], IfOk, OnOk};
-ghost use Rattle.path_text.specs.Path.{path_of};
+ghost use Rattle.std.specs.Prelude.{◌≡◌};
 ghost use Rattle.ports.specs.View.{OnlyReads};
-ghost use Rattle.appdir_cli.specs.Packing.{LoadsAs, default_dirs as default_dirs_list, default_setting};
+ghost use Rattle.appdir_cli.specs.Packing.{LoadsAs};
+ghost use Rattle.appdir_cli.specs.Settings.{default_setting};
 ghost use Rattle.appdir_cli.specs.Loading.{IsTreeLoaded};
 ghost use Rattle.byte_view.specs.declared.constants.TheConstants.{EM_X86_64 as THE_MACHINE};
 ghost use Rattle.appdir_cli.specs.Steps.{IsStepAnswer};
-ghost use Rattle.appdir_cli.specs.Stops.{stop_of_load, stop_of_open, stop_of_search};
+ghost use Rattle.appdir_cli.specs.Stops.{stop_of_load, stop_of_open, stop_of_replay, stop_of_search};
 
 use crate::answer::Stop;
-use byte_view::constants::EM_X86_64;
-use load_model::{FaceTable, List, LoadRefusal, OpenFault, Run, Setting};
-use load_order::{LoadStop, load};
-use path_text::{Abs, NoMemory};
+use crate::settings::{default_dirs, setting_of};
+use load_model::{FaceTable, LoadRefusal, OpenFault, Run, Setting};
+use load_order::LoadStop;
+use loader_replay::{ReplayStop, load_checked};
+use path_text::Abs;
 use ports::Tree;
 use refusals::Refusal;
 use search_paths::SearchStop;
 use std::alloc::Global;
 use tree_opener::FileOpener;
 
-/// A load list, over the faces of its objects.
+/// A load list whose versions are met, over the faces of its objects.
 #[derive(Drop)]
 pub struct LoadedProgram {
     pub run: Run,
@@ -38,7 +39,7 @@ pub fn load_program<T: Tree>(
         (λ world outcome. LoadsAs world program.now outcome) result }
     ensures only_reads { OnlyReads (T.seen tree.old) (T.seen tree.new) }
 {
-    let setting = default_setting(alloc)?;
+    let setting = setting_of(default_dirs(alloc)?);
     load_with(alloc, tree, &setting, program)
 }
 
@@ -63,7 +64,7 @@ fn load_with<T: Tree>(
     let _ = lent;
     match loaded {
         Ok(run) => Ok(LoadedProgram { run, faces: table }),
-        Err(stop) => Err(stop_of_load(stop)),
+        Err(stop) => Err(stop_of_replay(stop)),
     }
 }
 
@@ -73,17 +74,32 @@ fn load_over<T: Tree>(
     opener: &mut FileOpener<'_, T>,
     setting: &Setting,
     program: &Abs,
-) -> Result<Run, LoadStop>
+) -> Result<Run, ReplayStop>
     requires { setting.now.machine ≡ THE_MACHINE }
     ensures same_tree { opener.new.tree.ghost_name ≡ opener.old.tree.ghost_name }
     ensures answer { IsTreeLoaded setting.now (T.seen opener.old.tree.now)
         (T.seen opener.new.tree.now) opener.new.table program.now result }
     ensures only_reads { OnlyReads (T.seen opener.old.tree.now) (T.seen opener.new.tree.now) }
 {
-    load(alloc, opener, setting, program, &[])
+    load_checked(alloc, opener, setting, program, &[])
 }
 
-/// Why a program that is not loaded ends the command.
+/// Why a program that is not loaded, or whose versions are not met, ends the command.
+pub fn stop_of_replay(stop: ReplayStop) -> Stop
+    ensures { result ≡ stop_of_replay stop }
+{
+    match stop {
+        ReplayStop::Load(stop) => stop_of_load(stop),
+        ReplayStop::Unloaded { by, file } => {
+            Stop::Refused(Refusal::Load(LoadRefusal::VersionFileUnloaded(by, file)))
+        }
+        ReplayStop::Unsatisfied { by, file, version } => Stop::Refused(Refusal::Load(
+            LoadRefusal::UnsatisfiedVersion(by, file, version),
+        )),
+        ReplayStop::NoMemory => Stop::NoMemory,
+    }
+}
+
 fn stop_of_load(stop: LoadStop) -> Stop
     ensures { result ≡ stop_of_load stop }
 {
@@ -130,44 +146,5 @@ fn stop_of_open(fault: OpenFault) -> Stop
             Stop::Refused(Refusal::Load(LoadRefusal::Damaged(path, flaw)))
         }
         OpenFault::NoMemory => Stop::NoMemory,
-    }
-}
-
-/// The loader's setting: programs of x86-64, the default directories, no text for the tokens LIB
-/// and PLATFORM.
-fn default_setting(alloc: Global) -> Result<Setting, NoMemory>
-    ensures { IfOk result (λ setting. setting ≡ default_setting) }
-{
-    Ok(Setting {
-        machine: EM_X86_64,
-        dirs: default_dirs(alloc)?,
-        lib: None,
-        platform: None,
-    })
-}
-
-/// The directories in which a loader looks for libraries, unless it is told otherwise.
-fn default_dirs(alloc: Global) -> Result<List<Abs>, NoMemory>
-    ensures { IfOk result (λ dirs. dirs ≡ default_dirs_list) }
-{
-    let mut dirs = List::new(alloc);
-    push_directory(alloc, &mut dirs, b"/usr/local/lib")?;
-    push_directory(alloc, &mut dirs, b"/lib/x86_64-linux-gnu")?;
-    push_directory(alloc, &mut dirs, b"/usr/lib/x86_64-linux-gnu")?;
-    push_directory(alloc, &mut dirs, b"/lib64")?;
-    push_directory(alloc, &mut dirs, b"/usr/lib64")?;
-    push_directory(alloc, &mut dirs, b"/lib")?;
-    push_directory(alloc, &mut dirs, b"/usr/lib")?;
-    Ok(dirs)
-}
-
-/// Adds a path that is in normal form at the end of directories.
-fn push_directory(alloc: Global, dirs: &mut List<Abs>, text: &[u8]) -> Result<(), NoMemory>
-    requires { path_of text.now ≡ Ok text.now }
-    ensures { OnOk result (dirs.new ≡ dirs.old ++ text.now ∷ []) }
-{
-    match Abs::read(alloc, text) {
-        Ok(dir) => dirs.push(dir),
-        Err(_) => Err(NoMemory),
     }
 }

@@ -8,9 +8,10 @@ ghost use Rattle.appdir_cli.specs.Steps.{IsStepAnswer};
 ghost use Rattle.ports.specs.View.{OnlyReads};
 
 use crate::answer::{Answer, Stop};
-use crate::delivering::deliver;
+use crate::delivering::give;
 use crate::packing::quick;
-use crate::saying::{refuse, say};
+use crate::saying::refuse;
+use crate::showing::show;
 use crate::status::Status;
 use crate::words::Command;
 use ports::{OutDir, Sink, Tree};
@@ -24,6 +25,7 @@ fn answer<T: Tree>(alloc: Global, tree: &mut T, command: &Command) -> Result<Ans
 {
     match command {
         Command::Quick(command) => quick(alloc, tree, command),
+        Command::Show(command) => show(alloc, tree, command),
     }
 }
 
@@ -43,8 +45,7 @@ pub fn obey<T: Tree, O: OutDir, S: Sink>(
     ensures sink_faults { (S.seen sink.old).faults ≤ (S.seen sink.new).faults }
 {
     match answer(alloc, tree, command) {
-        Ok(Answer::Says(text)) => say(sink, text.as_bytes(), Status::Done),
-        Ok(Answer::Packs(whole)) => deliver(alloc, &whole, out, sink),
+        Ok(given) => give(alloc, &given, out, sink),
         Err(Stop::Refused(refusal)) => refuse(alloc, &refusal, sink),
         Err(Stop::Read) => Status::ReadFailed,
         Err(Stop::NoMemory) => Status::NoMemory,

@@ -1,13 +1,13 @@
 //! `quick`: packs a program whose whole load list is on the list of names. Definitions:
 //! `specs/Packing.antt`.
 
-ghost use Rattle.std.specs.Prelude.{◌≡◌, ◌-◌, IfOk, length};
+ghost use Rattle.std.specs.Prelude.{◌≡◌, ◌-◌, IfOk};
 ghost use Rattle.ports.specs.View.{OnlyReads};
-ghost use Rattle.appdir_cli.specs.Packing.{HasBytes, Packs, app_run_of, package_with};
+ghost use Rattle.appdir_cli.specs.Packing.{CountsListed, HasBytes, IsCounted, Packs, app_run_of, package_with};
 ghost use Rattle.appdir_cli.specs.Steps.{IsStepAnswer};
 
 use crate::answer::{Answer, Stop, Whole};
-use crate::loading::load_program;
+use crate::loading::{LoadedProgram, load_program};
 use crate::words::Quick;
 use listed_runs::is_all_listed;
 use load_model::{List, LoadRefusal, Text};
@@ -23,27 +23,44 @@ pub fn quick<T: Tree>(alloc: Global, tree: &mut T, command: &Quick) -> Result<An
         (λ world outcome. Packs world command.now outcome) result }
     ensures only_reads { OnlyReads (T.seen tree.old) (T.seen tree.new) }
 {
-    let loaded = match load_program(alloc, tree, &command.program) {
-        Ok(loaded) => loaded,
+    let count = match count_listed(alloc, tree, command) {
+        Ok(count) => count,
         Err(stop) => return Err(stop),
     };
+    let bytes = match read_program(alloc, tree, &command.program) {
+        Ok(bytes) => bytes,
+        Err(stop) => return Err(stop),
+    };
+    match package(alloc, command, bytes, count) {
+        Ok(whole) => Ok(Answer::Packs(whole)),
+        Err(_) => Err(Stop::NoMemory),
+    }
+}
+
+/// How many objects the program loads, where all of them are on the list of names.
+fn count_listed<T: Tree>(alloc: Global, tree: &mut T, command: &Quick) -> Result<usize, Stop>
+    ensures answer { IsStepAnswer (T.seen tree.old) (T.seen tree.new)
+        (λ world outcome. CountsListed world command.now outcome) result }
+    ensures only_reads { OnlyReads (T.seen tree.old) (T.seen tree.new) }
+{
+    match load_program(alloc, tree, &command.program) {
+        Ok(loaded) => count_of(alloc, command, &loaded),
+        Err(stop) => Err(stop),
+    }
+}
+
+/// The same of a program that is loaded.
+fn count_of(alloc: Global, command: &Quick, loaded: &LoadedProgram) -> Result<usize, Stop>
+    ensures { IsCounted command.now.names loaded.now result }
+{
     match is_all_listed(
         alloc,
         command.names.as_slice(),
         loaded.faces.as_slice(),
         &loaded.run,
     ) {
-        Ok(true) => {}
-        Ok(false) => return Err(Stop::Refused(Refusal::NotBuilt)),
-        Err(_) => return Err(Stop::NoMemory),
-    }
-    let bytes = match read_program(alloc, tree, &command.program) {
-        Ok(bytes) => bytes,
-        Err(stop) => return Err(stop),
-    };
-    let count = loaded.run.objs.as_slice().len();
-    match package(alloc, command, bytes, count) {
-        Ok(whole) => Ok(Answer::Packs(whole)),
+        Ok(true) => Ok(loaded.run.objs.as_slice().len()),
+        Ok(false) => Err(Stop::Refused(Refusal::NotBuilt)),
         Err(_) => Err(Stop::NoMemory),
     }
 }

@@ -1,8 +1,9 @@
 ghost use Rattle.std.specs.Prelude.{◌≡◌, [], ◌∷◌, ◌++◌, IfOk, MatchOption, OnOk, string_bytes};
 ghost use Rattle.std.specs.List.{list_all, list_any};
 ghost use Rattle.path_text.specs.FileName.{is_file_name_text};
-ghost use Rattle.appdir_cli.specs.Words.{command_of, default_names_list, is_unshaped, names_of, path_told, quick_of, quick_with, shape_of, texts};
+ghost use Rattle.appdir_cli.specs.Words.{command_of, default_names_list, dirs_of, is_unshaped, names_of, path_told, paths_told, quick_asked, quick_of, quick_with, shape_of, show_asked, show_of, show_with, texts};
 
+use crate::settings::default_dirs;
 use load_model::{List, Name};
 use path_text::{Abs, NoMemory, PathFault, is_file_name};
 use std::alloc::Global;
@@ -17,10 +18,20 @@ pub struct Quick {
     pub names: List<Name>,
 }
 
+/// `show PROGRAM [DIR ..]`: say what a program loads and what its references bind to. `dirs` are
+/// where the loader looks for libraries: the words DIR, or the default directories where none is
+/// given.
+#[derive(Drop)]
+pub struct Show {
+    pub program: Abs,
+    pub dirs: List<Abs>,
+}
+
 /// What the words ask for.
 #[derive(Drop)]
 pub enum Command {
     Quick(Quick),
+    Show(Show),
 }
 
 /// The command that the words have the shape of, or none.
@@ -72,11 +83,29 @@ fn split_word(words: &[String]) -> Option<(&[u8], &[String])>
 fn read_shape(alloc: Global, verb: &[u8], words: &[String]) -> Result<Option<Command>, NoMemory>
     ensures { IfOk result (λ command. command ≡ shape_of (verb.now ∷ texts words.now)) }
 {
-    if verb != b"quick".as_slice() {
-        return Ok(None);
+    if verb == b"quick".as_slice() {
+        return ask_quick(alloc, words);
     }
+    if verb == b"show".as_slice() {
+        return ask_show(alloc, words);
+    }
+    Ok(None)
+}
+
+fn ask_quick(alloc: Global, words: &[String]) -> Result<Option<Command>, NoMemory>
+    ensures { IfOk result (λ command. command ≡ quick_asked (texts words.now)) }
+{
     match read_quick(alloc, words)? {
         Some(quick) => Ok(Some(Command::Quick(quick))),
+        None => Ok(None),
+    }
+}
+
+fn ask_show(alloc: Global, words: &[String]) -> Result<Option<Command>, NoMemory>
+    ensures { IfOk result (λ command. command ≡ show_asked (texts words.now)) }
+{
+    match read_show(alloc, words)? {
+        Some(show) => Ok(Some(Command::Show(show))),
         None => Ok(None),
     }
 }
@@ -115,6 +144,58 @@ fn pack_words(
         out,
         names,
     }))
+}
+
+fn read_show(alloc: Global, words: &[String]) -> Result<Option<Show>, NoMemory>
+    ensures { IfOk result (λ command. command ≡ show_of (texts words.now)) }
+{
+    let Some((program, words)) = split_word(words) else {
+        return Ok(None);
+    };
+    let program = read_path(alloc, program)?;
+    let dirs = read_paths(alloc, words)?;
+    show_words(alloc, program, dirs)
+}
+
+fn show_words(
+    alloc: Global,
+    program: Option<Abs>,
+    dirs: Option<List<Abs>>,
+) -> Result<Option<Show>, NoMemory>
+    ensures { IfOk result (λ command. command ≡ show_with program dirs) }
+{
+    let (Some(program), Some(dirs)) = (program, dirs) else {
+        return Ok(None);
+    };
+    let dirs = given_dirs(alloc, dirs)?;
+    Ok(Some(Show { program, dirs }))
+}
+
+/// These directories, or the default ones where there are none.
+fn given_dirs(alloc: Global, dirs: List<Abs>) -> Result<List<Abs>, NoMemory>
+    ensures { IfOk result (λ given. given ≡ dirs_of dirs) }
+{
+    if dirs.as_slice().is_empty() {
+        default_dirs(alloc)
+    } else {
+        Ok(dirs)
+    }
+}
+
+/// The paths that the words read as, where all do.
+#[tactic(auto, unfolding(crate::specs::Words::paths_told))]
+fn read_paths(alloc: Global, words: &[String]) -> Result<Option<List<Abs>>, NoMemory>
+    ensures { IfOk result (λ paths. paths ≡ paths_told (texts words.now)) }
+{
+    let mut paths = List::new(alloc);
+    for word in words {
+        match read_path(alloc, word.as_bytes()) {
+            Ok(Some(path)) => paths.push(path)?,
+            Ok(None) => return Ok(None),
+            Err(_) => return Err(NoMemory),
+        }
+    }
+    Ok(Some(paths))
 }
 
 fn are_file_names(words: &[String]) -> bool
@@ -164,15 +245,22 @@ fn default_names(alloc: Global) -> Result<List<Name>, NoMemory>
     ensures { IfOk result (λ names. names ≡ default_names_list) }
 {
     let mut names = no_names(alloc);
-    push_text(alloc, &mut names, "ld-linux-x86-64.so.2")?;
-    push_text(alloc, &mut names, "libc.so.6")?;
-    push_text(alloc, &mut names, "libm.so.6")?;
-    push_text(alloc, &mut names, "libdl.so.2")?;
-    push_text(alloc, &mut names, "libpthread.so.0")?;
-    push_text(alloc, &mut names, "librt.so.1")?;
-    push_text(alloc, &mut names, "libresolv.so.2")?;
-    push_text(alloc, &mut names, "libutil.so.1")?;
+    push_default_names(alloc, &mut names)?;
     Ok(names)
+}
+
+fn push_default_names(alloc: Global, names: &mut List<Name>) -> Result<(), NoMemory>
+    requires { names.old ≡ [] }
+    ensures { OnOk result (names.new ≡ default_names_list) }
+{
+    push_text(alloc, names, "ld-linux-x86-64.so.2")?;
+    push_text(alloc, names, "libc.so.6")?;
+    push_text(alloc, names, "libm.so.6")?;
+    push_text(alloc, names, "libdl.so.2")?;
+    push_text(alloc, names, "libpthread.so.0")?;
+    push_text(alloc, names, "librt.so.1")?;
+    push_text(alloc, names, "libresolv.so.2")?;
+    push_text(alloc, names, "libutil.so.1")
 }
 
 /// Adds a text at the end of names that are all texts.

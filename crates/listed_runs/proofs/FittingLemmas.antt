@@ -61,13 +61,13 @@ number_at (suc n) j h =
     ]
 
 -- as long a list has an element there too
-there_too : {X : Type 0} {Y : Type 0} (xs : List X) (ys : List Y) (j : ℕ) (x : X) → length ys ≡ length xs → slice_get xs j ≡ Some x → (y : Y) × (slice_get ys j ≡ Some y)
+pub there_too : {X : Type 0} {Y : Type 0} (xs : List X) (ys : List Y) (j : ℕ) (x : X) → length ys ≡ length xs → slice_get xs j ≡ Some x → (y : Y) × (slice_get ys j ≡ Some y)
 there_too [] ys j x e h = cc
 there_too (z ∷ xs) [] j x e h = absurd (omega (arith, e))
 there_too (z ∷ xs) (y ∷ ys) zero x e h = (y, refl)
 there_too (z ∷ xs) (y ∷ ys) (suc j) x e h = there_too xs ys j x (omega (arith, e)) h
 
-none_too : {X : Type 0} {Y : Type 0} (xs : List X) (ys : List Y) (j : ℕ) → length ys ≡ length xs → slice_get xs j ≡ None → slice_get ys j ≡ None
+pub none_too : {X : Type 0} {Y : Type 0} (xs : List X) (ys : List Y) (j : ℕ) → length ys ≡ length xs → slice_get xs j ≡ None → slice_get ys j ≡ None
 none_too [] [] j e h = refl
 none_too [] (y ∷ ys) j e h = absurd (omega (arith, e))
 none_too (z ∷ xs) [] j e h = absurd (omega (arith, e))
@@ -101,7 +101,7 @@ module _ (names : List (List ℕ)) (faces : List Face) (loaded : Loaded) (ends :
       let w = there_too loaded.objs run.objs j o run_is.count stands in
       object_in_run j o w.0 stands w.1
 
-  same_face : (j : ℕ) (found : Option Object) → slice_get loaded.objs j ≡ found → face_at faces run j ≡ face_of_object found
+  pub same_face : (j : ℕ) (found : Option Object) → slice_get loaded.objs j ≡ found → face_at faces run j ≡ face_of_object found
   same_face j None h = rw (none_too loaded.objs run.objs j run_is.count h) refl
   same_face j (Some o) h = (object_is j o h).face
 

@@ -1,5 +1,8 @@
-use Rattle.std.proofs.Common.{subst, sym, ap, Err}
+use Rattle.std.proofs.Common.{[], subst, sym, ap, Err}
+use Rattle.load_model.specs.Faces.{face_or_flaw}
+use Rattle.load_model.specs.Replays.{IsReplayStop}
 use Rattle.load_model.specs.World.{World}
+use Rattle.load_model.specs.declared.setting.Setting.{Setting}
 use Rattle.ports.specs.View.{View}
 use Rattle.appdir_cli.specs.Packing.{LoadsAs}
 use Rattle.appdir_cli.specs.Steps.{IsStepAnswer}
@@ -11,7 +14,7 @@ use Rattle.appdir_cli.proofs.loading.load_with.Goals as goal
 pub returns-in-Err-clause-answer : goal.returns-in-Err-clause-answer
 returns-in-Err-clause-answer g c =
     let after : View World = g.T.Tree.seen c.load_over-loaded.new.opener.tree.now in
-    let stops : IsStepAnswer {A = LoadedProgram} (g.T.Tree.seen c.args.tree.now) after (λ world outcome. LoadsAs world c.args.program.now outcome) (Err c.stop_of_load.result) =
-    subst (λ (stop : Stop). IsStepAnswer {A = LoadedProgram} (g.T.Tree.seen c.args.tree.now) after (λ world outcome. LoadsAs world c.args.program.now outcome) (Err stop)) (sym c.stop_of_load.ensures)
-    (tree_stops c.args.setting.now (g.T.Tree.seen c.args.tree.now) after c.load_over-loaded.new.opener.table c.args.program.now c.in-Err.stop c.requires c.in-Err.ensures.answer) in
-    subst (λ (view : View World). IsStepAnswer {A = LoadedProgram} (g.T.Tree.seen c.args.tree.now) view (λ world outcome. LoadsAs world c.args.program.now outcome) (Err c.stop_of_load.result)) (sym (ap g.T.Tree.seen (c.tree-1.given.1 (sym c.in-Err.ensures.same_tree)))) stops
+    let stops : IsStepAnswer {A = LoadedProgram} (g.T.Tree.seen c.args.tree.now) after (λ world outcome. LoadsAs world c.args.program.now outcome) (Err c.stop_of_replay.result) =
+    subst (λ (stop : Stop). IsStepAnswer {A = LoadedProgram} (g.T.Tree.seen c.args.tree.now) after (λ world outcome. LoadsAs world c.args.program.now outcome) (Err stop)) (sym c.stop_of_replay.ensures)
+    (tree_stops {A = LoadedProgram} c.args.setting.now (g.T.Tree.seen c.args.tree.now) after c.args.program.now (λ world outcome. LoadsAs world c.args.program.now outcome) (λ world refusal h. subst (λ (s : Setting). IsReplayStop face_or_flaw s world c.args.program.now [] refusal) c.requires h) c.in-Err.stop c.in-Err.ensures.answer) in
+    subst (λ (view : View World). IsStepAnswer {A = LoadedProgram} (g.T.Tree.seen c.args.tree.now) view (λ world outcome. LoadsAs world c.args.program.now outcome) (Err c.stop_of_replay.result)) (sym (ap g.T.Tree.seen (c.tree-1.given.1 (sym c.in-Err.ensures.same_tree)))) stops

@@ -2,7 +2,7 @@ use Rattle.std.proofs.Common.{refl}
 use Rattle.std.specs.Prelude.{codes}
 use Rattle.path_text.specs.Path.{named_parts, rooted}
 use Rattle.appdir_cli.proofs.DirectoryLemmas.{read_plain}
-use Rattle.appdir_cli.proofs.loading.default_dirs.Goals as goal
+use Rattle.appdir_cli.proofs.settings.push_directories.Goals as goal
 
 pub push_directory-requires : goal.push_directory-requires
 unfolding named_parts rooted
