@@ -7,16 +7,16 @@ use Rattle.ports.specs.View.{View}
 use Rattle.appdir_cli.proofs.PackingLemmas.{packed_or_refused}
 use Rattle.appdir_cli.proofs.ShowingLemmas.{shown_or_refused}
 use Rattle.appdir_cli.specs.ComesTo.{ComesTo}
-use Rattle.appdir_cli.specs.Delivery.{IsFull}
+use Rattle.deliveries.specs.Delivery.{IsFull}
 use Rattle.appdir_cli.specs.Endings.{Ends, EndsFor, EndsUnshaped, Expects, IsComplete, IsGiven, IsRefused, Outside, packing_status}
-use Rattle.appdir_cli.specs.declared.answer.Answer.{Answer}
-use Rattle.appdir_cli.specs.declared.answer.Answer.TheVariants.{Says, Packs}
-use Rattle.appdir_cli.specs.declared.answer.Whole.{Whole}
+use Rattle.deliveries.specs.declared.answer.Answer.{Answer}
+use Rattle.deliveries.specs.declared.answer.Answer.TheVariants.{Says, Packs}
+use Rattle.deliveries.specs.declared.answer.Whole.{Whole}
 use Rattle.appdir_cli.specs.declared.words.Command.{Command}
 use Rattle.appdir_cli.specs.declared.words.Command.TheVariants.{Quick, Show}
 use Rattle.refusals.specs.declared.refusal.Refusal.{Refusal}
-use Rattle.appdir_cli.specs.declared.status.Status.{Status}
-use Rattle.appdir_cli.specs.declared.status.Status.TheVariants.{Done, Refused, Usage, ReadFailed, WriteFailed, NoMemory, PrintFailed}
+use Rattle.deliveries.specs.declared.status.Status.{Status}
+use Rattle.deliveries.specs.declared.status.Status.TheVariants.{Done, Refused, Usage, ReadFailed, WriteFailed, NoMemory, PrintFailed}
 
 -- no command has an answer and a refusal; of the commands these two lemmas alone speak
 pub never_both : (world : World) (command : Command) (answer : Answer) (refusal : Refusal) → ComesTo world command (Ok answer) → ComesTo world command (Err refusal) → ⊥

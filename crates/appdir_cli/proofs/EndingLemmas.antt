@@ -1,18 +1,18 @@
 -- How a call for a command ends, from how its files were delivered, or from its refusal.
 use Rattle.std.proofs.Common.{ℕ, List, ◌≡◌, inl, inr, refl, sym, subst, Ok, Err}
-use Rattle.appdir_cli.specs.Delivery.{IsAnswered, IsDelivered, IsFull, IsWhole}
+use Rattle.deliveries.specs.Delivery.{IsAnswered, IsDelivered, IsFull, IsWhole}
 use Rattle.appdir_cli.specs.Endings.{EndsFor, EndsUnshaped, IsDone, IsOutcome, IsRefused, Outside}
 use Rattle.ports.specs.View.{Stays}
 use Rattle.refusals.specs.Lines.{refusal_line, usage_text}
-use Rattle.appdir_cli.specs.Saying.{IsRefusal, IsSaid}
-use Rattle.appdir_cli.specs.declared.answer.Answer.{Answer}
-use Rattle.appdir_cli.specs.declared.answer.Answer.TheVariants.{Packs, Says}
-use Rattle.appdir_cli.specs.declared.answer.Whole.{Whole}
+use Rattle.deliveries.specs.Saying.{IsRefusal, IsSaid}
+use Rattle.deliveries.specs.declared.answer.Answer.{Answer}
+use Rattle.deliveries.specs.declared.answer.Answer.TheVariants.{Packs, Says}
+use Rattle.deliveries.specs.declared.answer.Whole.{Whole}
 use Rattle.appdir_cli.specs.declared.words.Command.{Command}
 use Rattle.refusals.specs.declared.refusal.Refusal.{Refusal}
 use Rattle.refusals.specs.declared.refusal.Refusal.TheVariants.{NotEmpty}
-use Rattle.appdir_cli.specs.declared.status.Status.{Status}
-use Rattle.appdir_cli.specs.declared.status.Status.TheVariants.{Done, Refused, Usage, ReadFailed, WriteFailed, NoMemory, PrintFailed}
+use Rattle.deliveries.specs.declared.status.Status.{Status}
+use Rattle.deliveries.specs.declared.status.Status.TheVariants.{Done, Refused, Usage, ReadFailed, WriteFailed, NoMemory, PrintFailed}
 
 module _ (command : Command) (before after : Outside) (whole : Whole) (outcome : IsOutcome command before (Ok (Packs whole))) where
   done : IsWhole whole before.folder after.folder → IsDone command before after whole.line

@@ -1,8 +1,6 @@
 pub mod CompletenessLemmas
-pub mod DeliveryLemmas
 pub mod DirectoryLemmas
 pub mod EndingLemmas
-pub mod FolderLemmas
 pub mod Lists
 pub mod PackingLemmas
 pub mod ShowingLemmas

@@ -14,10 +14,10 @@ use Rattle.appdir_cli.proofs.VersionLemmas.{met_or_refused}
 use Rattle.appdir_cli.specs.Packing.{AreVersionsMet, CountsListed, HasBytes, HasList, IsCounted, IsListed, IsPackage, LoadsAs, Packs, package_with}
 use Rattle.appdir_cli.specs.Settings.{default_setting}
 use Rattle.appdir_cli.specs.Steps.{IsStepAnswer}
-use Rattle.appdir_cli.specs.declared.answer.Answer.{Answer}
-use Rattle.appdir_cli.specs.declared.answer.Stop.{Stop}
-use Rattle.appdir_cli.specs.declared.answer.Stop.TheVariants.{Refused, Read, NoMemory}
-use Rattle.appdir_cli.specs.declared.answer.Whole.{Whole}
+use Rattle.deliveries.specs.declared.answer.Answer.{Answer}
+use Rattle.appdir_cli.specs.declared.stops.Stop.{Stop}
+use Rattle.appdir_cli.specs.declared.stops.Stop.TheVariants.{Refused, Read, NoMemory}
+use Rattle.deliveries.specs.declared.answer.Whole.{Whole}
 use Rattle.appdir_cli.specs.declared.loading.LoadedProgram.{LoadedProgram}
 use Rattle.refusals.specs.declared.refusal.Refusal.{Refusal}
 use Rattle.refusals.specs.declared.refusal.Refusal.TheVariants.{Load, NotBuilt, NotEmpty}

@@ -18,10 +18,10 @@ use Rattle.appdir_cli.specs.Loading.{IsReplayOver}
 use Rattle.appdir_cli.specs.Settings.{setting_of}
 use Rattle.appdir_cli.specs.Showing.{IsSaidOf, IsShown, ReplaysAs, Shows, ShowsIn, no_places}
 use Rattle.appdir_cli.specs.Steps.{IsStepAnswer}
-use Rattle.appdir_cli.specs.declared.answer.Answer.{Answer}
-use Rattle.appdir_cli.specs.declared.answer.Answer.TheVariants.{Says, Packs}
-use Rattle.appdir_cli.specs.declared.answer.Stop.{Stop}
-use Rattle.appdir_cli.specs.declared.answer.Stop.TheVariants.{Refused, Read, NoMemory}
+use Rattle.deliveries.specs.declared.answer.Answer.{Answer}
+use Rattle.deliveries.specs.declared.answer.Answer.TheVariants.{Says, Packs}
+use Rattle.appdir_cli.specs.declared.stops.Stop.{Stop}
+use Rattle.appdir_cli.specs.declared.stops.Stop.TheVariants.{Refused, Read, NoMemory}
 use Rattle.appdir_cli.specs.declared.showing.ReplayedProgram.{ReplayedProgram}
 use Rattle.appdir_cli.specs.declared.words.Show.{Show}
 

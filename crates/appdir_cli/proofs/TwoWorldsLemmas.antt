@@ -16,18 +16,18 @@ use Rattle.load_model.specs.declared.world.WorldFile.{WorldFile}
 use Rattle.load_model.proofs.SameNamesLemmas.{loads_alike}
 use Rattle.ports.specs.Folder.{Folder}
 use Rattle.ports.specs.View.{View}
-use Rattle.appdir_cli.specs.Delivery.{IsWhole, filled}
+use Rattle.deliveries.specs.Delivery.{IsWhole, filled}
 use Rattle.appdir_cli.specs.Endings.{Ends, IsGiven, Outside}
 use Rattle.listed_runs.proofs.ByNamesLemmas.{goes_by_names}
 use Rattle.appdir_cli.specs.Packing.{IsPackage, Packs as IsPackedBy}
 use Rattle.appdir_cli.specs.Settings.{default_setting}
 use Rattle.appdir_cli.specs.TwoWorlds.{IsPackable, IsPortable, IsPortableFor, RunsAlike, RunsOnHosts}
 use Rattle.appdir_cli.specs.Words.{command_of, default_names_list, is_unshaped, names_of, path_told, quick_asked, quick_of, quick_with, shape_of, show_asked, show_of}
-use Rattle.appdir_cli.specs.declared.answer.Answer.{Answer}
-use Rattle.appdir_cli.specs.declared.answer.Answer.TheVariants.{Says, Packs}
-use Rattle.appdir_cli.specs.declared.answer.Whole.{Whole}
-use Rattle.appdir_cli.specs.declared.status.Status.{Status}
-use Rattle.appdir_cli.specs.declared.status.Status.TheVariants.{Done}
+use Rattle.deliveries.specs.declared.answer.Answer.{Answer}
+use Rattle.deliveries.specs.declared.answer.Answer.TheVariants.{Says, Packs}
+use Rattle.deliveries.specs.declared.answer.Whole.{Whole}
+use Rattle.deliveries.specs.declared.status.Status.{Status}
+use Rattle.deliveries.specs.declared.status.Status.TheVariants.{Done}
 use Rattle.appdir_cli.specs.declared.words.Command.{Command}
 use Rattle.appdir_cli.specs.declared.words.Command.TheVariants.{Quick as AsksQuick, Show as AsksShow}
 use Rattle.appdir_cli.specs.declared.words.Quick.{Quick}

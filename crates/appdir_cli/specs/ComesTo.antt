@@ -4,7 +4,7 @@ use Rattle.std.specs.Prelude.{Result}
 use Rattle.load_model.specs.World.{World}
 use Rattle.appdir_cli.specs.Packing.{Packs as IsPackedBy}
 use Rattle.appdir_cli.specs.Showing.{Shows as IsShownBy}
-use Rattle.appdir_cli.specs.declared.answer.Answer.{Answer}
+use Rattle.deliveries.specs.declared.answer.Answer.{Answer}
 use Rattle.refusals.specs.declared.refusal.Refusal.{Refusal}
 use Rattle.appdir_cli.specs.declared.words.Command.{Command}
 use Rattle.appdir_cli.specs.declared.words.Command.TheVariants.{Quick, Show}

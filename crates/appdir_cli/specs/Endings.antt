@@ -7,17 +7,17 @@ use Rattle.ports.specs.declared.folders.MemFile.{MemFile}
 use Rattle.ports.specs.Folder.{Folder}
 use Rattle.ports.specs.View.{View, Stays}
 use Rattle.appdir_cli.specs.ComesTo.{ComesTo}
-use Rattle.appdir_cli.specs.Delivery.{IsCutOff, IsFull, IsWhole}
+use Rattle.deliveries.specs.Delivery.{IsCutOff, IsFull, IsWhole}
 use Rattle.refusals.specs.Lines.{refusal_line, usage_text}
-use Rattle.appdir_cli.specs.Saying.{Took, TookPart}
-use Rattle.appdir_cli.specs.declared.answer.Answer.{Answer}
-use Rattle.appdir_cli.specs.declared.answer.Answer.TheVariants.{Says, Packs}
-use Rattle.appdir_cli.specs.declared.answer.Whole.{Whole}
+use Rattle.deliveries.specs.Saying.{Took, TookPart}
+use Rattle.deliveries.specs.declared.answer.Answer.{Answer}
+use Rattle.deliveries.specs.declared.answer.Answer.TheVariants.{Says, Packs}
+use Rattle.deliveries.specs.declared.answer.Whole.{Whole}
 use Rattle.appdir_cli.specs.declared.words.Command.{Command}
 use Rattle.refusals.specs.declared.refusal.Refusal.{Refusal}
 use Rattle.refusals.specs.declared.refusal.Refusal.TheVariants.{NotEmpty}
-use Rattle.appdir_cli.specs.declared.status.Status.{Status}
-use Rattle.appdir_cli.specs.declared.status.Status.TheVariants.{Done, Refused, Usage, ReadFailed, WriteFailed, NoMemory, PrintFailed}
+use Rattle.deliveries.specs.declared.status.Status.{Status}
+use Rattle.deliveries.specs.declared.status.Status.TheVariants.{Done, Refused, Usage, ReadFailed, WriteFailed, NoMemory, PrintFailed}
 
 -- What tree, folder and sink tell at one moment.
 pub record Outside : Type 0 where

@@ -1,12 +1,9 @@
 pub mod ComesTo
-pub mod Delivery
 pub mod Endings
 pub mod Loading
 pub mod Packing
-pub mod Saying
 pub mod Settings
 pub mod Showing
-pub mod Status
 pub mod Steps
 pub mod Stops
 pub mod TwoWorlds

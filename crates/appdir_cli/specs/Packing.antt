@@ -16,11 +16,11 @@ use Rattle.ports.specs.declared.folders.MemFile.{MemFile}
 use Rattle.listed_runs.specs.Fitting.{is_all_listed, run_is_all_listed}
 use Rattle.refusals.specs.Lines.{done_line}
 use Rattle.appdir_cli.specs.Settings.{default_setting}
-use Rattle.appdir_cli.specs.declared.answer.Answer.{Answer}
-use Rattle.appdir_cli.specs.declared.answer.Answer.TheVariants.{Says, Packs as PacksFiles}
-use Rattle.appdir_cli.specs.declared.answer.Stop.{Stop}
-use Rattle.appdir_cli.specs.declared.answer.Stop.TheVariants.{Refused, Read, NoMemory}
-use Rattle.appdir_cli.specs.declared.answer.Whole.{Whole}
+use Rattle.deliveries.specs.declared.answer.Answer.{Answer}
+use Rattle.deliveries.specs.declared.answer.Answer.TheVariants.{Says, Packs as PacksFiles}
+use Rattle.appdir_cli.specs.declared.stops.Stop.{Stop}
+use Rattle.appdir_cli.specs.declared.stops.Stop.TheVariants.{Refused, Read, NoMemory}
+use Rattle.deliveries.specs.declared.answer.Whole.{Whole}
 use Rattle.appdir_cli.specs.declared.loading.LoadedProgram.{LoadedProgram}
 use Rattle.refusals.specs.declared.refusal.Refusal.{Refusal}
 use Rattle.refusals.specs.declared.refusal.Refusal.TheVariants.{Load, NotBuilt, NotEmpty}

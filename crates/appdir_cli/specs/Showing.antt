@@ -11,10 +11,10 @@ use Rattle.load_model.specs.declared.setting.Setting.{Setting}
 use Rattle.refusals.specs.declared.refusal.Refusal.{Refusal}
 use Rattle.refusals.specs.declared.refusal.Refusal.TheVariants.{Load, NotBuilt, NotEmpty}
 use Rattle.appdir_cli.specs.Settings.{setting_of}
-use Rattle.appdir_cli.specs.declared.answer.Answer.{Answer}
-use Rattle.appdir_cli.specs.declared.answer.Answer.TheVariants.{Says, Packs as PacksFiles}
-use Rattle.appdir_cli.specs.declared.answer.Stop.{Stop}
-use Rattle.appdir_cli.specs.declared.answer.Stop.TheVariants.{Refused, Read, NoMemory}
+use Rattle.deliveries.specs.declared.answer.Answer.{Answer}
+use Rattle.deliveries.specs.declared.answer.Answer.TheVariants.{Says, Packs as PacksFiles}
+use Rattle.appdir_cli.specs.declared.stops.Stop.{Stop}
+use Rattle.appdir_cli.specs.declared.stops.Stop.TheVariants.{Refused, Read, NoMemory}
 use Rattle.appdir_cli.specs.declared.showing.ReplayedProgram.{ReplayedProgram}
 use Rattle.appdir_cli.specs.declared.words.Show.{Show}
 

@@ -4,8 +4,8 @@ use Rattle.load_model.specs.World.{World}
 use Rattle.answers.specs.Faults.{Rose}
 use Rattle.answers.specs.Told.{WhereTold}
 use Rattle.ports.specs.View.{View}
-use Rattle.appdir_cli.specs.declared.answer.Stop.{Stop}
-use Rattle.appdir_cli.specs.declared.answer.Stop.TheVariants.{Refused, Read, NoMemory}
+use Rattle.appdir_cli.specs.declared.stops.Stop.{Stop}
+use Rattle.appdir_cli.specs.declared.stops.Stop.TheVariants.{Refused, Read, NoMemory}
 use Rattle.refusals.specs.declared.refusal.Refusal.{Refusal}
 
 -- A value or a refusal is one that the world allows; a read fails only where the count of faults

@@ -8,8 +8,8 @@ use Rattle.loader_replay.specs.declared.stops.ReplayStop.{ReplayStop}
 use Rattle.loader_replay.specs.declared.stops.ReplayStop.TheVariants.{Load as StopLoad, Unloaded, Unsatisfied, NoMemory as NoMemoryReplay}
 use Rattle.search_paths.specs.declared.hits.SearchStop.{SearchStop}
 use Rattle.search_paths.specs.declared.hits.SearchStop.TheVariants.{RelativeItem as StopRelativeItem, TokenUnset as StopTokenUnset, Open, NoMemory as NoMemorySearch}
-use Rattle.appdir_cli.specs.declared.answer.Stop.{Stop}
-use Rattle.appdir_cli.specs.declared.answer.Stop.TheVariants.{Refused, Read, NoMemory}
+use Rattle.appdir_cli.specs.declared.stops.Stop.{Stop}
+use Rattle.appdir_cli.specs.declared.stops.Stop.TheVariants.{Refused, Read, NoMemory}
 use Rattle.refusals.specs.declared.refusal.Refusal.TheVariants.{Load}
 
 abbrev pub stop_of_open : OpenFault → Stop

@@ -1,21 +1,16 @@
 //! The command line of the AppDir builder: words in, an answer and an AppDir out.
 #![tactic(auto)]
 
-mod answer;
-mod delivering;
 mod loading;
 mod obeying;
 mod packing;
-mod saying;
 mod settings;
 mod showing;
-mod status;
+mod stops;
 mod top;
 mod words;
-mod writing;
 
-pub use answer::{Answer, Whole};
+pub use deliveries::{Answer, Status, Whole, exit_number, status_name};
 pub use refusals::Refusal;
-pub use status::{Status, exit_number, status_name};
 pub use top::appdir_main;
 pub use words::{Command, Quick, Show};

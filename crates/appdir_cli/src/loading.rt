@@ -10,8 +10,8 @@ ghost use Rattle.byte_view.specs.declared.constants.TheConstants.{EM_X86_64 as T
 ghost use Rattle.appdir_cli.specs.Steps.{IsStepAnswer};
 ghost use Rattle.appdir_cli.specs.Stops.{stop_of_load, stop_of_open, stop_of_replay, stop_of_search};
 
-use crate::answer::Stop;
 use crate::settings::{default_dirs, setting_of};
+use crate::stops::Stop;
 use load_model::{FaceTable, LoadRefusal, OpenFault, Run, Setting};
 use load_order::LoadStop;
 use loader_replay::{ReplayStop, load_checked};

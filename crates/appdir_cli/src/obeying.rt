@@ -7,13 +7,11 @@ ghost use Rattle.appdir_cli.specs.Endings.{EndsFor, outside};
 ghost use Rattle.appdir_cli.specs.Steps.{IsStepAnswer};
 ghost use Rattle.ports.specs.View.{OnlyReads};
 
-use crate::answer::{Answer, Stop};
-use crate::delivering::give;
 use crate::packing::quick;
-use crate::saying::refuse;
 use crate::showing::show;
-use crate::status::Status;
+use crate::stops::Stop;
 use crate::words::Command;
+use deliveries::{Answer, Status, give, refuse};
 use ports::{OutDir, Sink, Tree};
 use std::alloc::Global;
 

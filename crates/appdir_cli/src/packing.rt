@@ -6,9 +6,10 @@ ghost use Rattle.ports.specs.View.{OnlyReads};
 ghost use Rattle.appdir_cli.specs.Packing.{CountsListed, HasBytes, IsCounted, Packs, app_run_of, package_with};
 ghost use Rattle.appdir_cli.specs.Steps.{IsStepAnswer};
 
-use crate::answer::{Answer, Stop, Whole};
 use crate::loading::{LoadedProgram, load_program};
+use crate::stops::Stop;
 use crate::words::Quick;
+use deliveries::{Answer, Whole};
 use listed_runs::is_all_listed;
 use load_model::{List, LoadRefusal, Text};
 use path_text::{Abs, NoMemory, Rel};

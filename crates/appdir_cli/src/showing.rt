@@ -8,11 +8,12 @@ ghost use Rattle.appdir_cli.specs.Loading.{IsReplayOver, IsTreeReplayed};
 ghost use Rattle.appdir_cli.specs.Showing.{IsSaidOf, ReplaysAs, Shows, ShowsIn, no_places, shown_text};
 ghost use Rattle.appdir_cli.specs.Steps.{IsStepAnswer};
 
-use crate::answer::{Answer, Stop};
 use crate::loading::stop_of_replay;
 use crate::settings::{copied_dirs, setting_of};
+use crate::stops::Stop;
 use crate::words::Show;
 use bind_report::report;
+use deliveries::Answer;
 use load_model::{FaceTable, List, Name, Obj, Replay, Setting, Text};
 use loader_replay::{ReplayStop, replay};
 use path_text::{Abs, NoMemory};

@@ -9,9 +9,8 @@ ghost use Rattle.appdir_cli.specs.TwoWorlds.{IsPortable, RunsAlike};
 ghost use Rattle.appdir_cli.specs.Words.{command_of, texts};
 
 use crate::obeying::obey;
-use crate::saying::say;
-use crate::status::Status;
 use crate::words::read_words;
+use deliveries::{Status, say};
 use ports::{OutDir, Sink, Tree};
 use refusals::usage_line;
 use std::alloc::Global;

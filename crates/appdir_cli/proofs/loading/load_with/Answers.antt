@@ -6,7 +6,7 @@ use Rattle.load_model.specs.declared.setting.Setting.{Setting}
 use Rattle.ports.specs.View.{View}
 use Rattle.appdir_cli.specs.Packing.{LoadsAs}
 use Rattle.appdir_cli.specs.Steps.{IsStepAnswer}
-use Rattle.appdir_cli.specs.declared.answer.Stop.{Stop}
+use Rattle.appdir_cli.specs.declared.stops.Stop.{Stop}
 use Rattle.appdir_cli.specs.declared.loading.LoadedProgram.{LoadedProgram}
 use Rattle.appdir_cli.proofs.StopLemmas.{tree_stops}
 use Rattle.appdir_cli.proofs.loading.load_with.Goals as goal

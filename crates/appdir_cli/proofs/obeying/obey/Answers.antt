@@ -2,8 +2,8 @@ use Rattle.std.proofs.Common.{subst, refl, Err}
 use Rattle.appdir_cli.specs.ComesTo.{ComesTo}
 use Rattle.appdir_cli.specs.Endings.{outside}
 use Rattle.appdir_cli.specs.Steps.{IsStepAnswer}
-use Rattle.appdir_cli.specs.declared.answer.Answer.{Answer}
-use Rattle.appdir_cli.specs.declared.answer.Stop.{Stop}
+use Rattle.deliveries.specs.declared.answer.Answer.{Answer}
+use Rattle.appdir_cli.specs.declared.stops.Stop.{Stop}
 use Rattle.appdir_cli.proofs.EndingLemmas.{answer_ends, refused_ends}
 use Rattle.appdir_cli.proofs.obeying.obey.Goals as goal
 

@@ -3,7 +3,7 @@ use Rattle.load_model.specs.World.{World}
 use Rattle.ports.specs.View.{View}
 use Rattle.appdir_cli.specs.Showing.{ReplaysAs}
 use Rattle.appdir_cli.specs.Steps.{IsStepAnswer}
-use Rattle.appdir_cli.specs.declared.answer.Stop.{Stop}
+use Rattle.appdir_cli.specs.declared.stops.Stop.{Stop}
 use Rattle.appdir_cli.specs.declared.showing.ReplayedProgram.{ReplayedProgram}
 use Rattle.appdir_cli.proofs.StopLemmas.{tree_stops}
 use Rattle.appdir_cli.proofs.showing.replay_program.Goals as goal

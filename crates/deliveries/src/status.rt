@@ -1,5 +1,5 @@
 ghost use Rattle.std.specs.Prelude.{◌≡◌};
-ghost use Rattle.appdir_cli.specs.Status.{exit_number_of, name_of};
+ghost use Rattle.deliveries.specs.Status.{exit_number_of, name_of};
 
 /// How a call of the program ended.
 #[derive(Clone, Copy, PartialEq, Eq, Debug)]

@@ -1,7 +1,7 @@
 //! Printing a text or the line of a refusal. Definitions: `specs/Saying.antt`.
 
 ghost use Rattle.std.specs.Prelude.{◌≤◌};
-ghost use Rattle.appdir_cli.specs.Saying.{IsRefusal, IsSaid};
+ghost use Rattle.deliveries.specs.Saying.{IsRefusal, IsSaid};
 
 use crate::status::Status;
 use ports::Sink;

@@ -1,6 +1,6 @@
 use Rattle.std.proofs.Common.{sym, ◌∙◌, refl, inr}
-use Rattle.appdir_cli.proofs.DeliveryLemmas.{over_delivered, part_delivered, rose_later, whole_delivered}
-use Rattle.appdir_cli.proofs.delivering.deliver.Goals as goal
+use Rattle.deliveries.proofs.DeliveryLemmas.{over_delivered, part_delivered, rose_later, whole_delivered}
+use Rattle.deliveries.proofs.delivering.deliver.Goals as goal
 
 pub returns-in-Ok-NotEmpty-clause-delivered : goal.returns-in-Ok-NotEmpty-clause-delivered
 returns-in-Ok-NotEmpty-clause-delivered g c =

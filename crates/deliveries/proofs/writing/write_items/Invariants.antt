@@ -1,7 +1,7 @@
 use Rattle.std.proofs.Common.{◌≤◌, take}
 use Rattle.ports.specs.Folder.{IsClosed, with_files}
 use Rattle.ports.specs.View.{Became}
-use Rattle.appdir_cli.proofs.writing.write_items.Given as goal
+use Rattle.deliveries.proofs.writing.write_items.Given as goal
 
 abbrev pub invariant-loop-item : goal.invariant-loop-item
 invariant-loop-item g l = record {

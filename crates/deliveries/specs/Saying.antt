@@ -4,8 +4,8 @@ use Rattle.answers.specs.Faults.{Rose}
 use Rattle.ports.specs.View.{View, Became, Stays, with_line}
 use Rattle.refusals.specs.Lines.{refusal_line}
 use Rattle.refusals.specs.declared.refusal.Refusal.{Refusal}
-use Rattle.appdir_cli.specs.declared.status.Status.{Status}
-use Rattle.appdir_cli.specs.declared.status.Status.TheVariants.{Refused, NoMemory, PrintFailed}
+use Rattle.deliveries.specs.declared.status.Status.{Status}
+use Rattle.deliveries.specs.declared.status.Status.TheVariants.{Refused, NoMemory, PrintFailed}
 
 -- The sink took this text, and nothing more.
 abbrev pub Took : List ℕ → View (List ℕ) → View (List ℕ) → Type 0

@@ -6,13 +6,13 @@ use Rattle.ports.specs.Folder.{Folder, with_files, with_root}
 use Rattle.ports.specs.View.{View, Became, Changed, Stays}
 use Rattle.ports.specs.declared.folders.MemFile.{MemFile}
 use Rattle.refusals.specs.Lines.{refusal_line}
-use Rattle.appdir_cli.specs.Saying.{IsSaid, Took, TookPart}
-use Rattle.appdir_cli.specs.declared.answer.Answer.{Answer}
-use Rattle.appdir_cli.specs.declared.answer.Answer.TheVariants.{Says, Packs}
-use Rattle.appdir_cli.specs.declared.answer.Whole.{Whole}
+use Rattle.deliveries.specs.Saying.{IsSaid, Took, TookPart}
+use Rattle.deliveries.specs.declared.answer.Answer.{Answer}
+use Rattle.deliveries.specs.declared.answer.Answer.TheVariants.{Says, Packs}
+use Rattle.deliveries.specs.declared.answer.Whole.{Whole}
 use Rattle.refusals.specs.declared.refusal.Refusal.TheVariants.{NotEmpty}
-use Rattle.appdir_cli.specs.declared.status.Status.{Status}
-use Rattle.appdir_cli.specs.declared.status.Status.TheVariants.{Done, Refused, Usage, ReadFailed, WriteFailed, NoMemory, PrintFailed}
+use Rattle.deliveries.specs.declared.status.Status.{Status}
+use Rattle.deliveries.specs.declared.status.Status.TheVariants.{Done, Refused, Usage, ReadFailed, WriteFailed, NoMemory, PrintFailed}
 
 -- The folder has no finished file.
 abbrev pub IsEmptyFolder : View Folder → Type 0

@@ -6,13 +6,13 @@ use Rattle.ports.specs.declared.folders.MemFile.{MemFile}
 use Rattle.ports.specs.declared.folders.RootState.TheVariants.{Empty, NotEmpty as Filled}
 use Rattle.ports.specs.Folder.{Added, Folder, with_files, with_root}
 use Rattle.ports.specs.View.{Became, Changed, View}
-use Rattle.appdir_cli.specs.Delivery.{IsDelivered, IsFull, IsPart, IsWhole}
+use Rattle.deliveries.specs.Delivery.{IsDelivered, IsFull, IsPart, IsWhole}
 use Rattle.refusals.specs.Lines.{refusal_line}
-use Rattle.appdir_cli.specs.Saying.{IsSaid}
-use Rattle.appdir_cli.specs.declared.answer.Whole.{Whole}
+use Rattle.deliveries.specs.Saying.{IsSaid}
+use Rattle.deliveries.specs.declared.answer.Whole.{Whole}
 use Rattle.refusals.specs.declared.refusal.Refusal.TheVariants.{NotEmpty}
-use Rattle.appdir_cli.specs.declared.status.Status.{Status}
-use Rattle.appdir_cli.specs.declared.status.Status.TheVariants.{Done, Refused}
+use Rattle.deliveries.specs.declared.status.Status.{Status}
+use Rattle.deliveries.specs.declared.status.Status.TheVariants.{Done, Refused}
 
 held_files : (files : List MemFile) → Filled ≡ root_state files → files ≢ []
 held_files [] e = absurd (cc)

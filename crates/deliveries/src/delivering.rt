@@ -1,7 +1,7 @@
 //! Giving an answer: saying its text, or writing its files into a folder and saying the line. Definitions: `specs/Delivery.antt`.
 
 ghost use Rattle.std.specs.Prelude.{◌≤◌};
-ghost use Rattle.appdir_cli.specs.Delivery.{IsAnswered, IsDelivered};
+ghost use Rattle.deliveries.specs.Delivery.{IsAnswered, IsDelivered};
 
 use crate::answer::{Answer, Whole};
 use crate::saying::say;

@@ -1,7 +1,7 @@
 -- The exit numbers and names of the statuses.
 use Rattle.std.specs.Prelude.{ℕ, List, codes}
-use Rattle.appdir_cli.specs.declared.status.Status.{Status}
-use Rattle.appdir_cli.specs.declared.status.Status.TheVariants.{Done, Refused, Usage, ReadFailed, WriteFailed, NoMemory, PrintFailed}
+use Rattle.deliveries.specs.declared.status.Status.{Status}
+use Rattle.deliveries.specs.declared.status.Status.TheVariants.{Done, Refused, Usage, ReadFailed, WriteFailed, NoMemory, PrintFailed}
 
 abbrev pub exit_number_of : Status → ℕ
 exit_number_of Done = 0

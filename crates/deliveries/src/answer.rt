@@ -1,0 +1,20 @@
+//! What a command comes to: a text that is said, or files that are written.
+
+use load_model::{List, Text};
+use path_text::Abs;
+use ports::MemFile;
+
+/// Files that are written, where, and the line that is said then.
+#[derive(Drop)]
+pub struct Whole {
+    pub place: Abs,
+    pub items: List<MemFile>,
+    pub line: Text,
+}
+
+/// What a command comes to where nothing fails.
+#[derive(Drop)]
+pub enum Answer {
+    Says(Text),
+    Packs(Whole),
+}
