@@ -2,23 +2,17 @@
 //! the bindings or the refusal where they are otherwise than the case wants.
 #![tactic(auto)]
 
-ghost use Rattle.std.specs.Prelude.{All};
-ghost use Rattle.load_model.specs.Bindings.{IsBindOver};
-ghost use Rattle.load_model.specs.Opening.{AreFew};
-ghost use Rattle.load_model.specs.Runs.{IsRunOver};
-
 mod lines;
 mod places;
 
-use bind_report::report;
 use case_rows::Fault;
 use lines::{bind_lines, stop_line};
 use load_files::{
     Case, cases_of, name_of, names_of, opener_of, program_of, setting_of, wanted_text,
 };
-use load_model::{Face, List, Opener, Replay};
+use load_model::Opener;
 use loader_replay::replay;
-use places::no_places;
+use places::report_of;
 use std::alloc::Global;
 use std::io;
 use toml::{Table, Value};
@@ -77,21 +71,10 @@ fn answer(alloc: Global, case: &Case<'_>) -> Result<Vec<u8>, Fault> {
     let start = program_of(alloc, case)?;
     let opens = names_of(alloc, case.opens)?;
     match replay(alloc, &mut opener, &setting, &start, opens.as_slice()) {
-        Ok(replay) => replay_lines(alloc, opener.faces(), replay),
+        Ok(replay) => {
+            let text = report_of(alloc, opener.faces(), &replay)?;
+            bind_lines(alloc, text.as_bytes())
+        }
         Err(stop) => stop_line(alloc, &stop),
     }
-}
-
-/// The lines of the bindings.
-fn replay_lines(alloc: Global, faces: &[Face], replay: Replay) -> Result<Vec<u8>, Fault>
-    requires run { IsRunOver faces.now replay.run }
-    requires few { AreFew faces.now }
-    requires binds { All (IsBindOver faces.now replay.run) replay.binds }
-{
-    let mut places = List::new(alloc);
-    places.push(no_places(alloc, replay.run.objs.as_slice().len())?)?;
-    let mut replays = List::new(alloc);
-    replays.push(replay)?;
-    let text = report(alloc, replays.as_slice(), faces, &places)?;
-    bind_lines(alloc, text.as_bytes())
 }

@@ -1,0 +1,6 @@
+use Rattle.std.proofs.Common.{◌≡◌, ◌++◌, drop}
+use Rattle.bind_cases.specs.Places.{no_places}
+use Rattle.bind_cases.proofs.places.dashes.Given as goal
+
+abbrev pub invariant-loop-obj : goal.invariant-loop-obj
+invariant-loop-obj l = l.places ++ no_places (drop l._obj-index l.objs) ≡ no_places l.objs
