@@ -105,8 +105,8 @@ agrees() {
 }
 
 [ -x "$appdir" ] || { echo "no program at $appdir: rt ci makes it"; exit 1; }
-for program in /bin/ls /bin/cp /usr/bin/sort /bin/sh /bin/bash /usr/bin/perl /usr/bin/python3 /usr/bin/gcc /usr/bin/git \
-    /usr/bin/gdb /usr/bin/openssl /usr/bin/curl /usr/bin/cmake; do
+for program in /bin/ls /bin/cp /usr/bin/sort /usr/bin/stat /bin/sh /bin/bash /bin/grep /bin/tar /usr/bin/perl \
+    /usr/bin/python3 /usr/bin/gcc /usr/bin/git /usr/bin/gdb /usr/bin/openssl /usr/bin/curl /usr/bin/cmake; do
     agrees "$program"
 done
 [ "$compared" -ge 8 ] || fail "only $compared programs were compared, and not eight"
