@@ -1,5 +1,5 @@
 -- What is read of a file tells what a loader sees in all of it.
-use Rattle.std.proofs.Common.{ℕ, zero, suc, List, [], ◌∷◌, ◌+◌, ◌-◌, ◌≤◌, ◌<◌, true, false, ◌≡◌, refl, ap, sym, ◌∙◌, length, take, drop, arith, min, nat_le, Option, Result, Ok, Err, IfOk, lit<, lit≤}
+use Rattle.std.proofs.Common.{ℕ, zero, suc, List, [], ◌∷◌, ◌+◌, ◌-◌, ◌≤◌, ◌<◌, true, false, ◌≡◌, refl, ap, sym, ◌∙◌, length, take, drop, arith, min, nat_le, Option, Result, Ok, Err, IfOk}
 use Rattle.std.proofs.lemmas.List.{drop-take, length-take-le}
 use Rattle.std.proofs.lemmas.Bool.{le-leb, leb-false, leb-true, lt-ltb}
 use Rattle.std.proofs.Math.Seq.{take-length}
