@@ -1,5 +1,5 @@
--- What a loader over a tree answers: a load list whose versions are met, or a run with its bindings,
--- over the faces that were read, or the first stop.
+-- What a loader over a tree answers: a load list whose versions are met, or a run with its
+-- bindings, over the faces that were read, or the first stop.
 use Rattle.std.specs.Prelude.{ℕ, List, [], ◌≡◌, All, None, Result, Ok, Err}
 use Rattle.answers.specs.Faults.{Rose}
 use Rattle.answers.specs.Told.{WhereTold}

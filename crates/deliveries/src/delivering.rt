@@ -1,4 +1,5 @@
-//! Giving an answer: saying its text, or writing its files into a folder and saying the line. Definitions: `specs/Delivery.antt`.
+//! Giving an answer: saying its text, or writing its files into a folder and saying the line.
+//! Definitions: `specs/Delivery.antt`.
 
 ghost use Rattle.std.specs.Prelude.{◌≤◌};
 ghost use Rattle.deliveries.specs.Delivery.{IsAnswered, IsDelivered};

@@ -1,5 +1,5 @@
-//! What a command comes to, a text or files, and giving it: saying the text, or writing the files into
-//! a folder and saying a line.
+//! What a command comes to, a text or files, and giving it: saying the text, or writing the files
+//! into a folder and saying a line.
 #![tactic(auto)]
 
 mod answer;
