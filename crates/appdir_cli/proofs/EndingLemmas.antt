@@ -1,6 +1,6 @@
 -- How a call for a command ends, from how its files were delivered, or from its refusal.
 use Rattle.std.proofs.Common.{ℕ, List, ◌≡◌, inl, inr, refl, sym, subst, Ok, Err}
-use Rattle.deliveries.specs.Delivery.{IsAnswered, IsDelivered, IsFull, IsWhole}
+use Rattle.deliveries.specs.Delivery.{IsAnswerDelivered, IsDelivered, IsFull, IsWhole}
 use Rattle.appdir_cli.specs.Endings.{EndsFor, EndsUnshaped, IsDone, IsOutcome, IsRefused, Outside}
 use Rattle.ports.specs.View.{Stays}
 use Rattle.refusals.specs.Lines.{refusal_line, usage_text}
@@ -60,7 +60,7 @@ module _ (command : Command) (before after : Outside) (text : List ℕ) (outcome
       ]
 
 -- how a call for a command ends that has an answer
-pub answer_ends : (command : Command) (before after : Outside) (answer : Answer) → IsOutcome command before (Ok answer) → (status : Status) → IsAnswered answer before.folder after.folder before.sink after.sink status → EndsFor command before after status
+pub answer_ends : (command : Command) (before after : Outside) (answer : Answer) → IsOutcome command before (Ok answer) → (status : Status) → IsAnswerDelivered answer before.folder after.folder before.sink after.sink status → EndsFor command before after status
 answer_ends command before after (Says text) outcome status h = said_ends command before after text outcome h.0 text status refl h.1
 answer_ends command before after (Packs whole) outcome status h = delivered_ends command before after whole outcome status h
 

@@ -16,7 +16,8 @@ use Rattle.refusals.specs.declared.refusal.Refusal.TheVariants.{Load, NotBuilt, 
 use Rattle.appdir_cli.proofs.VersionLemmas.{met_or_refused}
 use Rattle.appdir_cli.specs.Loading.{IsReplayOver}
 use Rattle.appdir_cli.specs.Settings.{setting_of}
-use Rattle.appdir_cli.specs.Showing.{IsSaidOf, IsShown, ReplaysAs, Shows, ShowsIn, no_places}
+use Rattle.bind_report.specs.Places.{no_places}
+use Rattle.appdir_cli.specs.Showing.{IsSaidOf, IsShown, ReplaysAs, Shows, ShowsIn}
 use Rattle.appdir_cli.specs.Steps.{IsStepAnswer}
 use Rattle.deliveries.specs.declared.answer.Answer.{Answer}
 use Rattle.deliveries.specs.declared.answer.Answer.TheVariants.{Says, Packs}

@@ -1,11 +1,11 @@
 -- What `show` comes to: the text of the program's run in its directories, or the first refusal.
-use Rattle.std.specs.Prelude.{ℕ, List, [], ◌∷◌, ◌≡◌, Result, Ok, Err, codes, map}
+use Rattle.std.specs.Prelude.{ℕ, List, [], ◌∷◌, ◌≡◌, Result, Ok, Err}
+use Rattle.bind_report.specs.Places.{no_places}
 use Rattle.bind_report.specs.Report.{report_text}
 use Rattle.load_model.specs.Faces.{face_or_flaw}
 use Rattle.load_model.specs.Replays.{IsReplay, IsReplayStop}
 use Rattle.load_model.specs.World.{World}
 use Rattle.load_model.specs.declared.faces.Face.{Face}
-use Rattle.load_model.specs.declared.runs.Obj.{Obj}
 use Rattle.load_model.specs.declared.runs.Replay.{Replay}
 use Rattle.load_model.specs.declared.setting.Setting.{Setting}
 use Rattle.refusals.specs.declared.refusal.Refusal.{Refusal}
@@ -26,10 +26,6 @@ ReplaysAs setting world path (Err (Load refusal)) =
     IsReplayStop face_or_flaw setting world path [] refusal
 ReplaysAs setting world path (Err NotBuilt) = ⊥
 ReplaysAs setting world path (Err (NotEmpty place)) = ⊥
-
--- No object has a place.
-abbrev pub no_places : List Obj → List (List ℕ)
-no_places objs = map (λ (o : Obj). codes "-") objs
 
 unfoldable pub shown_text : List Face → Replay → List ℕ
 shown_text faces replay = report_text (replay ∷ []) faces (no_places replay.run.objs ∷ [])

@@ -5,7 +5,8 @@ ghost use Rattle.std.specs.Prelude.{◌≡◌, ◌∷◌, [], IfOk};
 ghost use Rattle.byte_view.specs.declared.constants.TheConstants.{EM_X86_64 as THE_MACHINE};
 ghost use Rattle.ports.specs.View.{OnlyReads};
 ghost use Rattle.appdir_cli.specs.Loading.{IsReplayOver, IsTreeReplayed};
-ghost use Rattle.appdir_cli.specs.Showing.{IsSaidOf, ReplaysAs, Shows, ShowsIn, no_places, shown_text};
+ghost use Rattle.bind_report.specs.Places.{no_places};
+ghost use Rattle.appdir_cli.specs.Showing.{IsSaidOf, ReplaysAs, Shows, ShowsIn, shown_text};
 ghost use Rattle.appdir_cli.specs.Steps.{IsStepAnswer};
 
 use crate::loading::stop_of_replay;

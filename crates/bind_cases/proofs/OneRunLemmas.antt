@@ -8,7 +8,7 @@ use Rattle.load_model.specs.Runs.{IsRunOver}
 use Rattle.load_model.specs.declared.faces.Face.{Face}
 use Rattle.load_model.specs.declared.runs.Obj.{Obj}
 use Rattle.load_model.specs.declared.runs.Replay.{Replay}
-use Rattle.bind_cases.specs.Places.{no_places}
+use Rattle.bind_report.specs.Places.{no_places}
 
 pub one_run : (faces : List Face) (replay : Replay) → IsRunOver faces replay.run → All (λ (r : Replay). IsRunOver faces r.run) (replay ∷ [])
 one_run faces replay over = All-cons (λ (r : Replay). IsRunOver faces r.run) replay [] over (All-nil (λ (r : Replay). IsRunOver faces r.run))

@@ -4,7 +4,7 @@ ghost use Rattle.std.specs.Prelude.{◌≡◌, ◌∷◌, [], All, IfOk, length,
 ghost use Rattle.load_model.specs.Bindings.{IsBindOver};
 ghost use Rattle.load_model.specs.Opening.{AreFew};
 ghost use Rattle.load_model.specs.Runs.{IsRunOver};
-ghost use Rattle.bind_cases.specs.Places.{no_places};
+ghost use Rattle.bind_report.specs.Places.{no_places};
 
 use bind_report::report;
 use load_model::{Face, List, Name, NoMemory, Obj, Replay, Text};

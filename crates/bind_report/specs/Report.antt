@@ -32,8 +32,8 @@ class_text Call = codes "c"
 class_text Copy = codes "k"
 
 -- The place of the object of this number.
-abbrev pub place_at : List (List ℕ) → ℕ → List ℕ
-place_at places j = unwrap_or (slice_get places j) []
+abbrev pub object_place : List (List ℕ) → ℕ → List ℕ
+object_place places j = unwrap_or (slice_get places j) []
 
 -- The path of the object of this number.
 abbrev pub path_at : List Obj → ℕ → List ℕ
@@ -100,7 +100,7 @@ is_host place = bytes_eq place (codes "host")
 -- The line of a bind, unless an object of the host refers.
 unfoldable pub told_bind : List Face → Run → List (List ℕ) → Bind → List ℕ
 told_bind faces run places bind =
-    cond (is_host (place_at places bind.obj)) [] (bind_line faces run bind)
+    cond (is_host (object_place places bind.obj)) [] (bind_line faces run bind)
 
 unfoldable pub bind_lines : List Face → Run → List (List ℕ) → List Bind → List ℕ
 bind_lines faces run places binds = flat_map (told_bind faces run places) binds
@@ -108,7 +108,7 @@ bind_lines faces run places binds = flat_map (told_bind faces run places) binds
 -- The lines of a program, whose objects have these places.
 unfoldable pub program_lines : List Face → Replay → List (List ℕ) → List ℕ
 program_lines faces replay places =
-    program_line (path_at replay.run.objs 0) (place_at places 0)
+    program_line (path_at replay.run.objs 0) (object_place places 0)
     ++ (load_lines replay.run.objs places
     ++ (open_lines replay.run.opens replay.run.roots
     ++ bind_lines faces replay.run places replay.binds))

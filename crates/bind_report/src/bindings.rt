@@ -6,7 +6,7 @@
 ghost use Rattle.std.specs.Prelude.{◌≡◌, ◌++◌, ◌<◌, All, IfSome, IsSome, OnOk, length};
 ghost use Rattle.load_model.specs.Bindings.{IsBindOver, symbol_at};
 ghost use Rattle.load_model.specs.Runs.{IsRunOver};
-ghost use Rattle.bind_report.specs.Report.{bind_line, bind_lines, definition_text, is_host, place_at, reference_text, told_bind};
+ghost use Rattle.bind_report.specs.Report.{bind_line, bind_lines, definition_text, is_host, object_place, reference_text, told_bind};
 
 use crate::fields::{class_word, push_number, push_version};
 use crate::symbols::symbol_of;
@@ -60,7 +60,7 @@ fn push_told(
 /// Whether the place of an object is `host`.
 fn is_of_host(places: &[Name], obj: u32) -> bool
     requires { obj < length places.now }
-    ensures { result ≡ is_host (place_at places.now obj) }
+    ensures { result ≡ is_host (object_place places.now obj) }
 {
     places[obj as usize].as_bytes() == b"host".as_slice()
 }

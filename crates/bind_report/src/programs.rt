@@ -5,7 +5,7 @@
 ghost use Rattle.std.specs.Prelude.{◌≡◌, ◌++◌, ◌<◌, All, OnOk, length};
 ghost use Rattle.load_model.specs.Bindings.{IsBindOver};
 ghost use Rattle.load_model.specs.Runs.{IsRunOver};
-ghost use Rattle.bind_report.specs.Report.{load_line, load_lines, open_line, open_lines, path_at, place_at, program_line, program_lines};
+ghost use Rattle.bind_report.specs.Report.{load_line, load_lines, open_line, open_lines, path_at, object_place, program_line, program_lines};
 
 use crate::bindings::push_binds;
 use crate::fields::{push_number, push_place};
@@ -41,7 +41,7 @@ fn push_first(line: &mut Vec<u8>, objs: &[Obj], places: &[Name]) -> Result<(), N
     requires some { 0 < length objs.now }
     requires places { length places.now ≡ length objs.now }
     ensures { OnOk result (line.new.items
-        ≡ line.old.items ++ program_line (path_at objs.now 0) (place_at places.now 0)) }
+        ≡ line.old.items ++ program_line (path_at objs.now 0) (object_place places.now 0)) }
 {
     line.extend_from_slice(b"program ")?;
     escape_onto(line, objs[0].path.as_str().as_bytes())?;

@@ -66,9 +66,9 @@ IsDelivered whole folder folder' sink sink' Usage = ⊥
 IsDelivered whole folder folder' sink sink' ReadFailed = ⊥
 
 -- How giving an answer ends: a text is said, and files are delivered.
-abbrev pub IsAnswered : Answer → View Folder → View Folder → View (List ℕ) → View (List ℕ)
+abbrev pub IsAnswerDelivered : Answer → View Folder → View Folder → View (List ℕ) → View (List ℕ)
     → Status → Type 0
-IsAnswered (Says text) folder folder' sink sink' status =
+IsAnswerDelivered (Says text) folder folder' sink sink' status =
     Stays folder folder' × IsSaid text Done sink sink' status
-IsAnswered (Packs whole) folder folder' sink sink' status =
+IsAnswerDelivered (Packs whole) folder folder' sink sink' status =
     IsDelivered whole folder folder' sink sink' status

@@ -2,7 +2,7 @@
 //! Definitions: `specs/Delivery.antt`.
 
 ghost use Rattle.std.specs.Prelude.{◌≤◌};
-ghost use Rattle.deliveries.specs.Delivery.{IsAnswered, IsDelivered};
+ghost use Rattle.deliveries.specs.Delivery.{IsAnswerDelivered, IsDelivered};
 
 use crate::answer::{Answer, Whole};
 use crate::saying::say;
@@ -14,7 +14,7 @@ use std::alloc::Global;
 
 /// Says the text of an answer, or delivers its files.
 pub fn give<O: OutDir, S: Sink>(alloc: Global, answer: &Answer, out: &mut O, sink: &mut S) -> Status
-    ensures given { IsAnswered answer.now (O.seen out.old) (O.seen out.new)
+    ensures given { IsAnswerDelivered answer.now (O.seen out.old) (O.seen out.new)
         (S.seen sink.old) (S.seen sink.new) result }
     ensures folder_faults { (O.seen out.old).faults ≤ (O.seen out.new).faults }
     ensures sink_faults { (S.seen sink.old).faults ≤ (S.seen sink.new).faults }

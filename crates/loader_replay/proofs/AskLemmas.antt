@@ -20,7 +20,7 @@ use Rattle.loader_replay.specs.Answering.{replay_refusal_of}
 use Rattle.loader_replay.specs.Checking.{IsStopOf, NamesAsk, RefusesFirst}
 use Rattle.loader_replay.specs.declared.stops.ReplayStop.{ReplayStop}
 use Rattle.loader_replay.proofs.BindingLemmas.{all_flat, all_map, numbered}
-use Rattle.scope_lookup.specs.Asking.{asked_names, opened_by}
+use Rattle.scope_lookup.specs.Asking.{asked_names, names_opened_by}
 
 -- numbers up to a bound
 split_last : {X : Type 0} (xs : List X) (y : X) (i : ℕ) (x : X) → slice_get (xs ++ y ∷ []) i ≡ Some x → (slice_get xs i ≡ Some x) ⊎ (x ≡ y)
@@ -46,7 +46,7 @@ first_of_all P (Some x ∷ os) a all h = let e : x ≡ a = cc in subst P e (all 
 module _ (faces : List Face) (run : Run) where
   -- the names that objects ask for
   abbrev pub names_by : ℕ → List (List ℕ)
-  names_by j = needs_in (face_at faces run j) ++ opened_by run j
+  names_by j = needs_in (face_at faces run j) ++ names_opened_by run j
 
   abbrev pub names_up_to : ℕ → List (List (List ℕ))
   names_up_to n = map names_by (up_to n)

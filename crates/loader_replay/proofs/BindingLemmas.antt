@@ -20,7 +20,7 @@ use Rattle.load_model.specs.declared.runs.Run.{Run}
 use Rattle.load_model.specs.declared.symbols.Class.{Class}
 use Rattle.load_model.specs.declared.symbols.Class.TheVariants.{Plain, Call, Copy}
 use Rattle.load_model.specs.declared.symbols.Sym.{Sym}
-use Rattle.loader_replay.specs.Binding.{binds_at, binds_by, symbol_count}
+use Rattle.loader_replay.specs.Binding.{binds_at, binds_by, object_symbol_count}
 
 -- elements of lists that are numbered or put together
 pub there : {X : Type 0} (xs : List X) (k : ℕ) → k < length xs → (x : X) × (slice_get xs k ≡ Some x)
@@ -131,7 +131,7 @@ module _ (faces : List Face) (run : Run) where
   unfolding binds_of_object
   object_begun j old = refl
 
-  pub object_more : (j i : ℕ) (old binds start : List Bind) → i < symbol_count faces run j → binds ≡ old ++ binds_at faces run j i → old ++ left_from j i ≡ start → binds ++ left_from j (i + 1) ≡ start
+  pub object_more : (j i : ℕ) (old binds start : List Bind) → i < object_symbol_count faces run j → binds ≡ old ++ binds_at faces run j i → old ++ left_from j i ≡ start → binds ++ left_from j (i + 1) ≡ start
   unfolding binds_at
   object_more j i old binds start less e h =
       let syms : List Sym = syms_in (face_at faces run j) in
@@ -146,13 +146,13 @@ module _ (faces : List Face) (run : Run) where
       ap (λ xs. xs ++ left_from j (i + 1)) (e ∙ ap (λ o. old ++ binds_by faces run j i o) at) ∙ append_assoc old mine (left_from j (i + 1))
       ∙ ap (λ k. old ++ (mine ++ left_from j k)) up ∙ ap (λ xs. old ++ xs) (sym row) ∙ h
 
-  pub object_done : (j i : ℕ) (binds start : List Bind) → symbol_count faces run j ≤ i → binds ++ left_from j i ≡ start → binds ≡ start
+  pub object_done : (j i : ℕ) (binds start : List Bind) → object_symbol_count faces run j ≤ i → binds ++ left_from j i ≡ start → binds ≡ start
   object_done j i binds start past h =
       sym (append-nil binds)
       ∙ ap (λ xs. binds ++ flat_map (λ (numbered : ℕ × Sym). binds_of_symbol faces run j numbered.0 numbered.1) xs) (sym (left_none (syms_in (face_at faces run j)) 0 i past))
       ∙ h
 
-  pub symbol_in : (j i : ℕ) → i < symbol_count faces run j → is_some (symbol_at faces run j i) ≡ true
+  pub symbol_in : (j i : ℕ) → i < object_symbol_count faces run j → is_some (symbol_at faces run j i) ≡ true
   symbol_in j i less = ap is_some (in_syms (face_at faces run j) i ∙ (there (syms_in (face_at faces run j)) i less).1)
 
   -- class after class

@@ -8,8 +8,8 @@ use Rattle.load_model.specs.declared.runs.Run.{Run}
 use Rattle.load_model.specs.declared.symbols.Sym.{Sym}
 
 -- How many symbols the object of this number has.
-abbrev pub symbol_count : List Face → Run → ℕ → ℕ
-symbol_count faces run j = length (syms_in (face_at faces run j))
+abbrev pub object_symbol_count : List Face → Run → ℕ → ℕ
+object_symbol_count faces run j = length (syms_in (face_at faces run j))
 
 abbrev pub binds_by : List Face → Run → ℕ → ℕ → Option Sym → List Bind
 binds_by faces run j i None = []

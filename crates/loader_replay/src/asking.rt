@@ -5,7 +5,7 @@
 ghost use Rattle.std.specs.Prelude.{◌≡◌, ◌<◌, ◌++◌, IfOk, OnOk, length};
 ghost use Rattle.load_model.specs.Runs.{IsRunOver, face_at};
 ghost use Rattle.load_model.specs.VersionCheck.{needs_in};
-ghost use Rattle.scope_lookup.specs.Asking.{asked_names, opened_by};
+ghost use Rattle.scope_lookup.specs.Asking.{asked_names, names_opened_by};
 
 use crate::faces::face_of;
 use load_model::{Face, List, Name, Run};
@@ -29,7 +29,7 @@ fn names_of(alloc: Global, faces: &[Face], run: &Run, obj: u32) -> Result<List<N
     requires run { IsRunOver faces.now run.now }
     requires obj { obj < length run.now.objs }
     ensures { IfOk result (λ names. names
-        ≡ needs_in (face_at faces.now run.now obj) ++ opened_by run.now obj) }
+        ≡ needs_in (face_at faces.now run.now obj) ++ names_opened_by run.now obj) }
 {
     let mut names = face_of(faces, run, obj).needs.copy(alloc)?;
     if obj == 0 {

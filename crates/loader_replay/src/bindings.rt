@@ -8,7 +8,7 @@ ghost use Rattle.load_model.specs.Bindings.{IsBindOver, all_binds, bind_of, bind
 ghost use Rattle.load_model.specs.Opening.{AreFew};
 ghost use Rattle.load_model.specs.Runs.{IsRunOver};
 ghost use Rattle.load_model.specs.SymbolWords.{is_shared};
-ghost use Rattle.loader_replay.specs.Binding.{binds_at, symbol_count};
+ghost use Rattle.loader_replay.specs.Binding.{binds_at, object_symbol_count};
 
 use crate::faces::face_of;
 use byte_view::constants::{STB_GLOBAL, STB_GNU_UNIQUE, STB_WEAK, STT_OBJECT};
@@ -54,7 +54,7 @@ fn add_object<F: Offers>(
     requires obj { obj < length run.now.objs }
     ensures { OnOk result (binds.new ≡ binds.old ++ binds_of_object faces.now run.now obj) }
 {
-    for sym in 1..symbol_count(faces, run, obj) {
+    for sym in 1..object_symbol_count(faces, run, obj) {
         add_symbol(faces, index, run, obj, sym, binds)?;
     }
     Ok(())
@@ -115,11 +115,11 @@ fn add_reference<F: Offers>(
 }
 
 /// How many symbols an object has.
-fn symbol_count(faces: &[Face], run: &Run, obj: u32) -> u32
+fn object_symbol_count(faces: &[Face], run: &Run, obj: u32) -> u32
     requires run { IsRunOver faces.now run.now }
     requires few { AreFew faces.now }
     requires obj { obj < length run.now.objs }
-    ensures { result ≡ symbol_count faces.now run.now obj }
+    ensures { result ≡ object_symbol_count faces.now run.now obj }
 {
     face_of(faces, run, obj).syms.as_slice().len() as u32
 }

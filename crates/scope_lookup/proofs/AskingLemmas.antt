@@ -19,8 +19,8 @@ use Rattle.load_model.specs.declared.asks.Ask.{Ask}
 use Rattle.load_model.specs.declared.faces.Face.{Face}
 use Rattle.load_model.specs.declared.runs.Obj.{Obj}
 use Rattle.load_model.specs.declared.runs.Run.{Run}
-use Rattle.scope_lookup.specs.Asking.{asked_names, opened_by, unmet_ask}
-use Rattle.scope_lookup.specs.Firsts.{earlier, goes_to, requests_in}
+use Rattle.scope_lookup.specs.Asking.{asked_names, names_opened_by, unmet_ask}
+use Rattle.scope_lookup.specs.Firsts.{earlier, is_request_to, requests_in}
 use Rattle.scope_lookup.specs.declared.stops.VersionStop.{VersionStop}
 use Rattle.scope_lookup.specs.declared.stops.VersionStop.TheVariants.{VersionFileUnloaded, UnsatisfiedVersion}
 use Rattle.scope_lookup.proofs.EarlierLemmas.{earlier_either, find-filter, find_below, find_first, find_none, find_same}
@@ -106,7 +106,7 @@ earlier_none (Some i) = refl
 -- one request more of some names with their targets
 module _ (run : Run) (phase : ℕ) (file : List ℕ) (names : List (List ℕ)) (targets : List ℕ) where
   abbrev pub target_so_far : ℕ → Option ℕ
-  target_so_far i = find (λ j. list_any (goes_to file j) (take i (zip names targets))) (loaded_by run phase)
+  target_so_far i = find (λ j. list_any (is_request_to file j) (take i (zip names targets))) (loaded_by run phase)
 
   target_more : (i target : ℕ) (name : List ℕ) (c : Bool) → i < length names → i < length targets → name ≡ get_or names i [] → target ≡ get_or targets i 0 → target < length run.objs → (bytes_eq name file && nat_le (phase_at run target) phase) ≡ c → target_so_far (i + 1) ≡ earlier (target_so_far i) (cond c (Some target) None)
   target_more i target name c in_names in_targets name_is target_is within h =
@@ -117,9 +117,9 @@ module _ (run : Run) (phase : ℕ) (file : List ℕ) (names : List (List ℕ)) (
       let pair : get_or pairs i ([], 0) ≡ (name, target) = get_or-zip names targets i ([], 0) in_names in_targets ∙ ap (λ x. (x, get_or targets i 0)) (sym name_is) ∙ ap (λ x. (name, x)) (sym target_is) in
       let one : find (λ j. bytes_eq name file && (target == j)) (loaded_by run phase) ≡ cond c (Some target) None =
       find-filter t (λ j. bytes_eq name file && (target == j)) (up_to (length run.objs)) ∙ one_request t (bytes_eq name file) c target (length run.objs) within h in
-      find_same (λ j. list_any (goes_to file j) (take (i + 1) pairs)) (λ j. list_any (goes_to file j) (take i pairs) || (bytes_eq name file && (target == j))) (loaded_by run phase)
-      (λ j. list_any_more (goes_to file j) pairs i ([], 0) less ∙ ap (λ x. list_any (goes_to file j) (take i pairs) || goes_to file j x) pair)
-      ∙ sym (loaded_either run phase (λ j. list_any (goes_to file j) (take i pairs)) (λ j. bytes_eq name file && (target == j)))
+      find_same (λ j. list_any (is_request_to file j) (take (i + 1) pairs)) (λ j. list_any (is_request_to file j) (take i pairs) || (bytes_eq name file && (target == j))) (loaded_by run phase)
+      (λ j. list_any_more (is_request_to file j) pairs i ([], 0) less ∙ ap (λ x. list_any (is_request_to file j) (take i pairs) || is_request_to file j x) pair)
+      ∙ sym (loaded_either run phase (λ j. list_any (is_request_to file j) (take i pairs)) (λ j. bytes_eq name file && (target == j)))
       ∙ ap (earlier (target_so_far i)) one
 
   pub target_hit : (i target : ℕ) (name : List ℕ) → i < length names → i < length targets → name ≡ get_or names i [] → target ≡ get_or targets i 0 → target < length run.objs → bytes_eq name file ≡ true → nat_le (phase_at run target) phase ≡ true → (first : Option ℕ) → first ≡ target_so_far i → earlier first (Some target) ≡ target_so_far (i + 1)
@@ -133,7 +133,7 @@ module _ (run : Run) (phase : ℕ) (file : List ℕ) (names : List (List ℕ)) (
 -- the requests of one object more
 module _ (asked : List (List (List ℕ))) (run : Run) (phase : ℕ) (file : List ℕ) where
   abbrev pub needed_so_far : ℕ → Option ℕ
-  needed_so_far n = find (λ j. list_any (goes_to file j) (flat_map (requests_in asked run) (filter (λ k. nat_le (phase_at run k) phase) (up_to n)))) (loaded_by run phase)
+  needed_so_far n = find (λ j. list_any (is_request_to file j) (flat_map (requests_in asked run) (filter (λ k. nat_le (phase_at run k) phase) (up_to n)))) (loaded_by run phase)
 
   one_kept : (n : ℕ) (c : Bool) → flat_map (requests_in asked run) (cond c (n ∷ []) []) ≡ cond c (requests_in asked run n) []
   one_kept n true = append-nil (requests_in asked run n)
@@ -150,19 +150,19 @@ module _ (asked : List (List (List ℕ))) (run : Run) (phase : ℕ) (file : List
       ∙ ap (λ xs. flat_map (requests_in asked run) (filter t (up_to n)) ++ flat_map (requests_in asked run) xs) (ap (λ c. cond c (n ∷ []) []) h)
       ∙ ap (λ xs. flat_map (requests_in asked run) (filter t (up_to n)) ++ xs) (one_kept n b)
 
-  pub needed_more : (n : ℕ) (first : Option ℕ) → nat_le (phase_at run n) phase ≡ true → first ≡ needed_so_far n → earlier first (find (λ j. list_any (goes_to file j) (requests_in asked run n)) (loaded_by run phase)) ≡ needed_so_far (n + 1)
+  pub needed_more : (n : ℕ) (first : Option ℕ) → nat_le (phase_at run n) phase ≡ true → first ≡ needed_so_far n → earlier first (find (λ j. list_any (is_request_to file j) (requests_in asked run n)) (loaded_by run phase)) ≡ needed_so_far (n + 1)
   needed_more n first h g =
       let before : List (List ℕ × ℕ) = flat_map (requests_in asked run) (filter (λ k. nat_le (phase_at run k) phase) (up_to n)) in
-      ap (λ o. earlier o (find (λ j. list_any (goes_to file j) (requests_in asked run n)) (loaded_by run phase))) g
-      ∙ loaded_either run phase (λ j. list_any (goes_to file j) before) (λ j. list_any (goes_to file j) (requests_in asked run n))
-      ∙ find_same (λ j. list_any (goes_to file j) before || list_any (goes_to file j) (requests_in asked run n)) (λ j. list_any (goes_to file j) (flat_map (requests_in asked run) (filter (λ k. nat_le (phase_at run k) phase) (up_to (n + 1))))) (loaded_by run phase)
-      (λ j. sym (list_any-append (goes_to file j) before (requests_in asked run n)) ∙ ap (list_any (goes_to file j)) (sym (kept_requests n true h)))
+      ap (λ o. earlier o (find (λ j. list_any (is_request_to file j) (requests_in asked run n)) (loaded_by run phase))) g
+      ∙ loaded_either run phase (λ j. list_any (is_request_to file j) before) (λ j. list_any (is_request_to file j) (requests_in asked run n))
+      ∙ find_same (λ j. list_any (is_request_to file j) before || list_any (is_request_to file j) (requests_in asked run n)) (λ j. list_any (is_request_to file j) (flat_map (requests_in asked run) (filter (λ k. nat_le (phase_at run k) phase) (up_to (n + 1))))) (loaded_by run phase)
+      (λ j. sym (list_any-append (is_request_to file j) before (requests_in asked run n)) ∙ ap (list_any (is_request_to file j)) (sym (kept_requests n true h)))
 
   pub needed_same : (n : ℕ) (first : Option ℕ) → nat_le (phase_at run n) phase ≡ false → first ≡ needed_so_far n → first ≡ needed_so_far (n + 1)
   needed_same n first h g =
       let before : List (List ℕ × ℕ) = flat_map (requests_in asked run) (filter (λ k. nat_le (phase_at run k) phase) (up_to n)) in
-      g ∙ find_same (λ j. list_any (goes_to file j) before) (λ j. list_any (goes_to file j) (flat_map (requests_in asked run) (filter (λ k. nat_le (phase_at run k) phase) (up_to (n + 1))))) (loaded_by run phase)
-      (λ j. ap (list_any (goes_to file j)) (sym (kept_requests n false h ∙ append-nil before)))
+      g ∙ find_same (λ j. list_any (is_request_to file j) before) (λ j. list_any (is_request_to file j) (flat_map (requests_in asked run) (filter (λ k. nat_le (phase_at run k) phase) (up_to (n + 1))))) (loaded_by run phase)
+      (λ j. ap (list_any (is_request_to file j)) (sym (kept_requests n false h ∙ append-nil before)))
 
 -- what is asked for with the needs of each object, where the names are those
 zip_front : (xs ys : List (List ℕ)) (ts : List ℕ) → length ts ≡ length xs → zip (xs ++ ys) ts ≡ zip xs ts
@@ -196,16 +196,16 @@ module _ (faces : List Face) (run : Run) (over : IsRunOver faces run) where
       let face = there faces o.0.face place in
       (face.0, ap (option_and_then (λ (x : Obj). slice_get faces x.face)) o.1 ∙ face.1)
 
-  names_at : (asked : List (List (List ℕ))) → asked ≡ asked_names faces run → (j : ℕ) → j < length run.objs → slice_get asked j ≡ Some (needs_in (face_at faces run j) ++ opened_by run j)
+  names_at : (asked : List (List (List ℕ))) → asked ≡ asked_names faces run → (j : ℕ) → j < length run.objs → slice_get asked j ≡ Some (needs_in (face_at faces run j) ++ names_opened_by run j)
   unfolding asked_names
   names_at asked is j less =
-      ap (λ xs. slice_get xs j) is ∙ slice_get-map (λ k. needs_in (face_at faces run k) ++ opened_by run k) (up_to (length run.objs)) j
-      ∙ ap (option_map (λ k. needs_in (face_at faces run k) ++ opened_by run k)) (at_number (length run.objs) j less)
+      ap (λ xs. slice_get xs j) is ∙ slice_get-map (λ k. needs_in (face_at faces run k) ++ names_opened_by run k) (up_to (length run.objs)) j
+      ∙ ap (option_map (λ k. needs_in (face_at faces run k) ++ names_opened_by run k)) (at_number (length run.objs) j less)
 
   pub asked_count : (asked : List (List (List ℕ))) → asked ≡ asked_names faces run → length asked ≡ length run.objs
   unfolding asked_names
   asked_count asked is =
-      ap length is ∙ length-map (up_to (length run.objs)) (λ k. needs_in (face_at faces run k) ++ opened_by run k) ∙ length-up_to (length run.objs)
+      ap length is ∙ length-map (up_to (length run.objs)) (λ k. needs_in (face_at faces run k) ++ names_opened_by run k) ∙ length-up_to (length run.objs)
 
   requests_same : (asked : List (List (List ℕ))) → asked ≡ asked_names faces run → (j : ℕ) → requests_in asked run j ≡ needs_to faces run j
   requests_same asked is j =
@@ -216,9 +216,9 @@ module _ (faces : List Face) (run : Run) (over : IsRunOver faces run) where
             let face = face_there j less in
             let size : length ts.0 ≡ length face.0.needs = over.counts j face.0 ts.0 face.1 ts.1 in
             ap (λ o. zip (unwrap_or o []) (unwrap_or (slice_get run.targets j) [])) (names_at asked is j less)
-            ∙ ap (λ o. zip (needs_in (face_at faces run j) ++ opened_by run j) (unwrap_or o [])) ts.1
-            ∙ ap (λ o. zip (needs_in o ++ opened_by run j) ts.0) face.1
-            ∙ zip_front face.0.needs (opened_by run j) ts.0 size
+            ∙ ap (λ o. zip (needs_in (face_at faces run j) ++ names_opened_by run j) (unwrap_or o [])) ts.1
+            ∙ ap (λ o. zip (needs_in o ++ names_opened_by run j) ts.0) face.1
+            ∙ zip_front face.0.needs (names_opened_by run j) ts.0 size
             ∙ sym (ap (λ o. zip (needs_in o) (unwrap_or (slice_get run.targets j) [])) face.1 ∙ ap (λ o. zip face.0.needs (unwrap_or o [])) ts.1)
         | inr past ↦
             let size : length asked ≡ length run.objs = asked_count asked is in
@@ -229,8 +229,8 @@ module _ (faces : List Face) (run : Run) (over : IsRunOver faces run) where
   -- the first of all for which the name is known
   pub file_is : (asked : List (List (List ℕ))) (j phase : ℕ) (file : List ℕ) (a b c : Option ℕ) → asked ≡ asked_names faces run → phase ≡ phase_at run j
       → a ≡ find (λ k. is_named (soname_in (face_at faces run k)) file) (loaded_by run phase)
-      → b ≡ find (λ k. list_any (goes_to file k) (flat_map (requests_in asked run) (loaded_by run phase))) (loaded_by run phase)
-      → c ≡ find (λ k. list_any (goes_to file k) (zip (take phase run.opens) (take phase run.roots))) (loaded_by run phase)
+      → b ≡ find (λ k. list_any (is_request_to file k) (flat_map (requests_in asked run) (loaded_by run phase))) (loaded_by run phase)
+      → c ≡ find (λ k. list_any (is_request_to file k) (zip (take phase run.opens) (take phase run.roots))) (loaded_by run phase)
       → earlier a (earlier b c) ≡ version_file_of faces run j file
   unfolding version_file_of
   file_is asked j phase file a b c is at h g e =
@@ -241,11 +241,11 @@ module _ (faces : List Face) (run : Run) (over : IsRunOver faces run) where
       ap (λ xs. xs ++ opened) (flat_same (requests_in asked run) (needs_to faces run) (loaded_by run phase) (requests_same asked is))
       ∙ ap (λ xs. flat_map (needs_to faces run) (loaded_by run phase) ++ xs) (sym (zip_take phase run.opens run.roots)) in
       ap (λ o. earlier o (earlier b c)) h ∙ ap (λ o. earlier (find named (loaded_by run phase)) (earlier o c)) g
-      ∙ ap (λ o. earlier (find named (loaded_by run phase)) (earlier (find (λ k. list_any (goes_to file k) needed) (loaded_by run phase)) o)) e
-      ∙ ap (earlier (find named (loaded_by run phase))) (loaded_either run phase (λ k. list_any (goes_to file k) needed) (λ k. list_any (goes_to file k) opened))
-      ∙ loaded_either run phase named (λ k. list_any (goes_to file k) needed || list_any (goes_to file k) opened)
-      ∙ find_same (λ k. named k || (list_any (goes_to file k) needed || list_any (goes_to file k) opened)) (is_known_by faces run phase file) (loaded_by run phase)
-      (λ k. ap (λ x. named k || x) (sym (list_any-append (goes_to file k) needed opened) ∙ ap (list_any (goes_to file k)) all))
+      ∙ ap (λ o. earlier (find named (loaded_by run phase)) (earlier (find (λ k. list_any (is_request_to file k) needed) (loaded_by run phase)) o)) e
+      ∙ ap (earlier (find named (loaded_by run phase))) (loaded_either run phase (λ k. list_any (is_request_to file k) needed) (λ k. list_any (is_request_to file k) opened))
+      ∙ loaded_either run phase named (λ k. list_any (is_request_to file k) needed || list_any (is_request_to file k) opened)
+      ∙ find_same (λ k. named k || (list_any (is_request_to file k) needed || list_any (is_request_to file k) opened)) (is_known_by faces run phase file) (loaded_by run phase)
+      (λ k. ap (λ x. named k || x) (sym (list_any-append (is_request_to file k) needed opened) ∙ ap (list_any (is_request_to file k)) all))
       ∙ ap (λ p. find (is_known_by faces run p file) (loaded_by run p)) at
 
   -- the first with a soname
@@ -421,7 +421,7 @@ module _ (faces : List Face) (run : Run) where
   not_all_met (UnsatisfiedVersion j k) h v = let none = none_up_to (length run.objs) v in cc
 
 -- where the loops of the file of an ask begin and end
-pub nothing_asked : (file : List ℕ) (xs : List ℕ) → None ≡ find (λ j. list_any (goes_to file j) []) xs
+pub nothing_asked : (file : List ℕ) (xs : List ℕ) → None ≡ find (λ j. list_any (is_request_to file j) []) xs
 nothing_asked file [] = refl
 nothing_asked file (x ∷ xs) = nothing_asked file xs
 
@@ -447,11 +447,11 @@ requests_at asked run n names targets in_asked in_targets names_is targets_is =
     ∙ ap (λ o. zip names (unwrap_or o [])) (slice_get_read run.targets (length run.targets) n targets refl in_targets targets_is))
 
 -- one turn of the loop over names and targets
-pub target_end : (run : Run) (phase : ℕ) (file : List ℕ) (names : List (List ℕ)) (targets : List ℕ) (i : ℕ) (first : Option ℕ) → i ≡ min (length names) (length targets) → first ≡ target_so_far run phase file names targets i → first ≡ find (λ j. list_any (goes_to file j) (zip names targets)) (loaded_by run phase)
+pub target_end : (run : Run) (phase : ℕ) (file : List ℕ) (names : List (List ℕ)) (targets : List ℕ) (i : ℕ) (first : Option ℕ) → i ≡ min (length names) (length targets) → first ≡ target_so_far run phase file names targets i → first ≡ find (λ j. list_any (is_request_to file j) (zip names targets)) (loaded_by run phase)
 target_end run phase file names targets i first all h =
     let size : length (zip names targets) ≡ min (length names) (length targets) = length-zip names targets in
-    h ∙ find_same (λ j. list_any (goes_to file j) (take i (zip names targets))) (λ j. list_any (goes_to file j) (zip names targets)) (loaded_by run phase)
-    (λ j. ap (list_any (goes_to file j)) (take_all i (zip names targets) (omega arith)))
+    h ∙ find_same (λ j. list_any (is_request_to file j) (take i (zip names targets))) (λ j. list_any (is_request_to file j) (zip names targets)) (loaded_by run phase)
+    (λ j. ap (list_any (is_request_to file j)) (take_all i (zip names targets) (omega arith)))
 
 pub one_longer : {X : Type 0} (run : Run) (phase : ℕ) (file : List ℕ) (names : List (List ℕ)) (targets : List ℕ) (ys : List X) (y : X) (first : Option ℕ) → first ≡ target_so_far run phase file names targets (length ys + 1) → first ≡ target_so_far run phase file names targets (length (ys ++ y ∷ []))
 one_longer run phase file names targets ys y first h =

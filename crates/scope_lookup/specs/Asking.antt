@@ -9,14 +9,14 @@ use Rattle.scope_lookup.specs.declared.stops.VersionStop.{VersionStop}
 use Rattle.scope_lookup.specs.declared.stops.VersionStop.TheVariants.{VersionFileUnloaded, UnsatisfiedVersion}
 
 -- The names that an object opens: the program alone does.
-abbrev pub opened_by : Run → ℕ → List (List ℕ)
-opened_by run zero = run.opens
-opened_by run (suc j) = []
+abbrev pub names_opened_by : Run → ℕ → List (List ℕ)
+names_opened_by run zero = run.opens
+names_opened_by run (suc j) = []
 
 -- The names that each object asks for: its needs, and then those that it opens.
 unfoldable pub asked_names : List Face → Run → List (List (List ℕ))
 asked_names faces run =
-    map (λ j. needs_in (face_at faces run j) ++ opened_by run j) (up_to (length run.objs))
+    map (λ j. needs_in (face_at faces run j) ++ names_opened_by run j) (up_to (length run.objs))
 
 -- The ask that a stop names.
 abbrev pub unmet_ask : VersionStop → Option UnmetAsk

@@ -32,10 +32,10 @@ offer_in index run class s k =
     (offered_at index run k))
 
 -- What a reference by this symbol finds there; a copy finds nothing in the program.
-unfoldable pub found_at : List Offered → Run → Class → Sym → ℕ → Option Def
-found_at index run class s k =
+unfoldable pub found_in_object : List Offered → Run → Class → Sym → ℕ → Option Def
+found_in_object index run class s k =
     cond ((k == 0) && is_copy class) None (offer_in index run class s k)
 
 -- The first that it finds in these objects.
-unfoldable pub first_found : List Offered → Run → Class → Sym → List ℕ → Option Def
-first_found index run class s ks = first_some (map (found_at index run class s) ks)
+unfoldable pub first_found_in : List Offered → Run → Class → Sym → List ℕ → Option Def
+first_found_in index run class s ks = first_some (map (found_in_object index run class s) ks)

@@ -11,8 +11,8 @@ earlier (Some i) None = Some i
 earlier (Some i) (Some j) = Some (min i j)
 
 -- A request, with its target, is of this name and went to this object.
-abbrev pub goes_to : List ℕ → ℕ → (List ℕ × ℕ) → Bool
-goes_to name j asked = bytes_eq asked.0 name && (asked.1 == j)
+abbrev pub is_request_to : List ℕ → ℕ → (List ℕ × ℕ) → Bool
+is_request_to name j asked = bytes_eq asked.0 name && (asked.1 == j)
 
 -- The names that an object asks for, each with the object that it went to.
 abbrev pub requests_in : List (List (List ℕ)) → Run → ℕ → List (List ℕ × ℕ)

@@ -9,7 +9,7 @@ ghost use Rattle.load_model.specs.LoadList.{is_named};
 ghost use Rattle.load_model.specs.Runs.{AreBelow, IsRunOver, face_at};
 ghost use Rattle.load_model.specs.VersionCheck.{loaded_by, phase_at, soname_in, version_file_of};
 ghost use Rattle.scope_lookup.specs.Asking.{asked_names};
-ghost use Rattle.scope_lookup.specs.Firsts.{earlier, goes_to, requests_in};
+ghost use Rattle.scope_lookup.specs.Firsts.{earlier, is_request_to, requests_in};
 
 use crate::faces::face_of;
 use load_model::{Face, List, Name, Run};
@@ -63,7 +63,7 @@ fn first_needed(run: &Run, asked: &List<List<Name>>, phase: u32, file: &Name) ->
     requires lists { length run.now.targets ≡ length run.now.objs }
     requires targets { All (AreBelow (length run.now.objs)) run.now.targets }
     ensures { result ≡ find
-        (λ j. list_any (goes_to file.now j) (flat_map (requests_in asked.now run.now)
+        (λ j. list_any (is_request_to file.now j) (flat_map (requests_in asked.now run.now)
         (loaded_by run.now phase))) (loaded_by run.now phase) }
 {
     let mut first = None;
@@ -81,7 +81,7 @@ fn first_needed(run: &Run, asked: &List<List<Name>>, phase: u32, file: &Name) ->
 fn first_target(run: &Run, phase: u32, file: &Name, names: &[Name], targets: &[u32]) -> Option<u32>
     requires few { length run.now.objs < 2 ^ 32 }
     requires targets { AreBelow (length run.now.objs) targets.now }
-    ensures { result ≡ find (λ j. list_any (goes_to file.now j) (zip names.now targets.now))
+    ensures { result ≡ find (λ j. list_any (is_request_to file.now j) (zip names.now targets.now))
         (loaded_by run.now phase) }
 {
     let mut first = None;

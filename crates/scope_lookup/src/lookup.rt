@@ -9,7 +9,7 @@ ghost use Rattle.load_model.specs.Bindings.{wanted_version};
 ghost use Rattle.load_model.specs.LoadList.{up_to};
 ghost use Rattle.load_model.specs.Runs.{AreBelow};
 ghost use Rattle.load_model.specs.Scopes.{local_of};
-ghost use Rattle.scope_lookup.specs.Finding.{IsSearchable, first_found, found_at};
+ghost use Rattle.scope_lookup.specs.Finding.{IsSearchable, first_found_in, found_in_object};
 
 use crate::binding::is_copy;
 use load_model::{Class, Def, Offers, Run, Sym, Ver};
@@ -32,7 +32,7 @@ pub fn first_in_scope<F: Offers>(
     requires searchable { IsSearchable (map F.offered index.now) run.now }
     requires obj { obj < length run.now.objs }
     requires itself { IfSome itself (λ k. k < length run.now.objs) }
-    ensures { result ≡ first_found (map F.offered index.now) run.now reference.entry.class
+    ensures { result ≡ first_found_in (map F.offered index.now) run.now reference.entry.class
         reference.entry.symbol.now
         (option_to_list itself ++ (up_to run.now.global
         ++ local_of run.now (slice_get run.now.objs obj))) }
@@ -56,9 +56,9 @@ fn first_global<F: Offers>(
     reference: Reference<'_>,
 ) -> Option<Def>
     requires searchable { IsSearchable (map F.offered index.now) run.now }
-    requires looked { IfSome itself (λ k. found_at (map F.offered index.now) run.now
+    requires looked { IfSome itself (λ k. found_in_object (map F.offered index.now) run.now
         reference.class reference.symbol.now k ≡ None) }
-    ensures { result ≡ first_found (map F.offered index.now) run.now reference.entry.class
+    ensures { result ≡ first_found_in (map F.offered index.now) run.now reference.entry.class
         reference.entry.symbol.now (up_to run.now.global) }
 {
     for number in 0..run.global {
@@ -82,11 +82,11 @@ fn first_local<F: Offers>(
 ) -> Option<Def>
     requires searchable { IsSearchable (map F.offered index.now) run.now }
     requires numbers { AreBelow (length run.now.objs) numbers.now }
-    requires looked { IfSome itself (λ k. found_at (map F.offered index.now) run.now
+    requires looked { IfSome itself (λ k. found_in_object (map F.offered index.now) run.now
         reference.class reference.symbol.now k ≡ None) }
-    requires global { first_found (map F.offered index.now) run.now reference.class
+    requires global { first_found_in (map F.offered index.now) run.now reference.class
         reference.symbol.now (up_to run.now.global) ≡ None }
-    ensures { result ≡ first_found (map F.offered index.now) run.now reference.entry.class
+    ensures { result ≡ first_found_in (map F.offered index.now) run.now reference.entry.class
         reference.entry.symbol.now numbers.now }
 {
     for number in numbers {
@@ -117,7 +117,7 @@ fn local_list(run: &Run, obj: u32) -> &[u32]
 fn offer_at<F: Offers>(index: &[F], run: &Run, number: u32, reference: Reference<'_>) -> Option<Def>
     requires searchable { IsSearchable (map F.offered index.now) run.now }
     requires number { number < length run.now.objs }
-    ensures { result ≡ found_at (map F.offered index.now) run.now reference.entry.class
+    ensures { result ≡ found_in_object (map F.offered index.now) run.now reference.entry.class
         reference.entry.symbol.now number }
 {
     if number == 0 && is_copy(reference.class) {

@@ -1,5 +1,5 @@
 use Rattle.std.proofs.Common.{◌≡◌, ◌++◌, drop}
-use Rattle.appdir_cli.specs.Showing.{no_places}
+use Rattle.bind_report.specs.Places.{no_places}
 use Rattle.appdir_cli.proofs.showing.no_places.Given as goal
 
 abbrev pub invariant-loop-obj : goal.invariant-loop-obj

@@ -1,5 +1,5 @@
 use Rattle.std.proofs.Common.{◌≡◌, ◌++◌, drop}
-use Rattle.bind_cases.specs.Places.{no_places}
+use Rattle.bind_report.specs.Places.{no_places}
 use Rattle.bind_cases.proofs.places.dashes.Given as goal
 
 abbrev pub invariant-loop-obj : goal.invariant-loop-obj

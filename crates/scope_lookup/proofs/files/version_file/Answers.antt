@@ -1,7 +1,7 @@
 use Rattle.std.proofs.Common.{◌≡◌, ◌∙◌, ap, get_or, zip, take}
 use Rattle.std.specs.List.{find, list_any}
 use Rattle.load_model.specs.VersionCheck.{loaded_by, version_file_of}
-use Rattle.scope_lookup.specs.Firsts.{earlier, goes_to}
+use Rattle.scope_lookup.specs.Firsts.{earlier, is_request_to}
 use Rattle.scope_lookup.proofs.AskingLemmas.{asked_count, file_is, phase_read, version_below}
 use Rattle.scope_lookup.proofs.files.version_file.Goals as goal
 use Rattle.scope_lookup.proofs.files.version_file.Goals.{After-earlier-2}
@@ -17,8 +17,8 @@ file_found c =
     (phase_read c.args.run.now c.as_slice.result.now c.args.obj c.index-as_slice-obj.result c.as_slice.ensures c.requires.obj c.index-as_slice-obj.is)
     c.first_with_soname.ensures c.first_needed-needed.ensures
     (c.first_target-opened.ensures
-    ∙ ap (λ xs. find (λ j. list_any (goes_to c.args.file.now j) (zip xs (take phase c.as_slice-3.result.now))) (loaded_by c.args.run.now phase)) (ap (take phase) c.as_slice-2.ensures)
-    ∙ ap (λ ts. find (λ j. list_any (goes_to c.args.file.now j) (zip (take phase c.args.run.now.opens) ts)) (loaded_by c.args.run.now phase)) (ap (take phase) c.as_slice-3.ensures))
+    ∙ ap (λ xs. find (λ j. list_any (is_request_to c.args.file.now j) (zip xs (take phase c.as_slice-3.result.now))) (loaded_by c.args.run.now phase)) (ap (take phase) c.as_slice-2.ensures)
+    ∙ ap (λ ts. find (λ j. list_any (is_request_to c.args.file.now j) (zip (take phase c.args.run.now.opens) ts)) (loaded_by c.args.run.now phase)) (ap (take phase) c.as_slice-3.ensures))
 
 pub returns-clause-file : goal.returns-clause-file
 returns-clause-file c = file_found c

@@ -1,6 +1,6 @@
 use Rattle.std.proofs.Common.{◌≡◌, ◌∙◌, sym, ap, map, arith}
 use Rattle.load_model.specs.LoadList.{up_to}
-use Rattle.scope_lookup.specs.Finding.{first_found}
+use Rattle.scope_lookup.specs.Finding.{first_found_in}
 use Rattle.scope_lookup.proofs.ScopeLemmas.{found_there, itself_again, nothing_more, nothing_yet}
 use Rattle.scope_lookup.proofs.lookup.first_global.Goals.{then-ne+in_default, else-ne}
 use Rattle.scope_lookup.proofs.lookup.first_global.Goals as goal
@@ -23,4 +23,4 @@ loop-number-preserved g c =
 pub returns : goal.returns
 returns g c =
     let same : c.loop-number.number ≡ c.args.run.now.global = omega arith in
-    sym c.loop-number.invariant ∙ ap (λ n. first_found (map g.F.Offers.offered c.args.index.now) c.args.run.now c.args.reference.class c.args.reference.symbol.now (up_to n)) same
+    sym c.loop-number.invariant ∙ ap (λ n. first_found_in (map g.F.Offers.offered c.args.index.now) c.args.run.now c.args.reference.class c.args.reference.symbol.now (up_to n)) same

@@ -2,7 +2,7 @@ use Rattle.std.proofs.Common.{◌≡◌, ◌∙◌, sym, ap, map, slice_get, Non
 use Rattle.std.specs.Option.{option_or}
 use Rattle.load_model.specs.LoadList.{up_to}
 use Rattle.load_model.specs.Scopes.{local_of}
-use Rattle.scope_lookup.specs.Finding.{first_found, found_at}
+use Rattle.scope_lookup.specs.Finding.{first_found_in, found_in_object}
 use Rattle.scope_lookup.proofs.ScopeLemmas.{looked_at, none_itself, scope_itself, scope_rest}
 use Rattle.scope_lookup.proofs.lookup.first_in_scope.Goals.{in-Some+in_default-offer_at, in_default}
 use Rattle.scope_lookup.proofs.lookup.first_in_scope.Goals as goal
@@ -14,19 +14,19 @@ returns-in-Some-offer_at g c =
 
 pub returns-in-Some-first_global : goal.returns-in-Some-first_global
 returns-in-Some-first_global g c =
-    let looked : IfSome c.args.itself (λ k. found_at (map g.F.Offers.offered c.args.index.now) c.args.run.now c.args.reference.class c.args.reference.symbol.now k ≡ None) = elim c.match-itself.branch [
+    let looked : IfSome c.args.itself (λ k. found_in_object (map g.F.Offers.offered c.args.index.now) c.args.run.now c.args.reference.class c.args.reference.symbol.now k ≡ None) = elim c.match-itself.branch [
       | in-Some+in_default-offer_at w ↦ looked_at (map g.F.Offers.offered c.args.index.now) c.args.run.now c.args.reference.class c.args.reference.symbol.now c.args.itself w.in-Some.number w.in-Some.is (sym w.offer_at.ensures ∙ w.in_default-offer_at.is)
       | in_default w ↦ none_itself (map g.F.Offers.offered c.args.index.now) c.args.run.now c.args.reference.class c.args.reference.symbol.now c.args.itself w.in_default.is
     ] in
     scope_rest (map g.F.Offers.offered c.args.index.now) c.args.run.now c.args.reference.class c.args.reference.symbol.now c.args.itself (up_to c.args.run.now.global) (local_of c.args.run.now (slice_get c.args.run.now.objs c.args.obj)) (Some c.in-Some-first_global.def) looked
-    (ap (λ o. option_or o (first_found (map g.F.Offers.offered c.args.index.now) c.args.run.now c.args.reference.class c.args.reference.symbol.now (local_of c.args.run.now (slice_get c.args.run.now.objs c.args.obj)))) (sym c.first_global.ensures ∙ c.in-Some-first_global.is))
+    (ap (λ o. option_or o (first_found_in (map g.F.Offers.offered c.args.index.now) c.args.run.now c.args.reference.class c.args.reference.symbol.now (local_of c.args.run.now (slice_get c.args.run.now.objs c.args.obj)))) (sym c.first_global.ensures ∙ c.in-Some-first_global.is))
 
 pub returns : goal.returns
 returns g c =
-    let looked : IfSome c.args.itself (λ k. found_at (map g.F.Offers.offered c.args.index.now) c.args.run.now c.args.reference.class c.args.reference.symbol.now k ≡ None) = elim c.match-itself.branch [
+    let looked : IfSome c.args.itself (λ k. found_in_object (map g.F.Offers.offered c.args.index.now) c.args.run.now c.args.reference.class c.args.reference.symbol.now k ≡ None) = elim c.match-itself.branch [
       | in-Some+in_default-offer_at w ↦ looked_at (map g.F.Offers.offered c.args.index.now) c.args.run.now c.args.reference.class c.args.reference.symbol.now c.args.itself w.in-Some.number w.in-Some.is (sym w.offer_at.ensures ∙ w.in_default-offer_at.is)
       | in_default w ↦ none_itself (map g.F.Offers.offered c.args.index.now) c.args.run.now c.args.reference.class c.args.reference.symbol.now c.args.itself w.in_default.is
     ] in
     scope_rest (map g.F.Offers.offered c.args.index.now) c.args.run.now c.args.reference.class c.args.reference.symbol.now c.args.itself (up_to c.args.run.now.global) (local_of c.args.run.now (slice_get c.args.run.now.objs c.args.obj)) c.first_local.result looked
-    (ap (λ o. option_or o (first_found (map g.F.Offers.offered c.args.index.now) c.args.run.now c.args.reference.class c.args.reference.symbol.now (local_of c.args.run.now (slice_get c.args.run.now.objs c.args.obj)))) (sym c.first_global.ensures ∙ c.in_default-first_global.is)
-    ∙ ap (first_found (map g.F.Offers.offered c.args.index.now) c.args.run.now c.args.reference.class c.args.reference.symbol.now) (sym c.local_list.ensures.list) ∙ sym c.first_local.ensures)
+    (ap (λ o. option_or o (first_found_in (map g.F.Offers.offered c.args.index.now) c.args.run.now c.args.reference.class c.args.reference.symbol.now (local_of c.args.run.now (slice_get c.args.run.now.objs c.args.obj)))) (sym c.first_global.ensures ∙ c.in_default-first_global.is)
+    ∙ ap (first_found_in (map g.F.Offers.offered c.args.index.now) c.args.run.now c.args.reference.class c.args.reference.symbol.now) (sym c.local_list.ensures.list) ∙ sym c.first_local.ensures)
