@@ -9,7 +9,6 @@ ghost use Rattle.load_model.specs.Runs.{IsRunOver};
 ghost use Rattle.bind_report.specs.Report.{bind_line, bind_lines, definition_text, is_host, object_place, reference_text, told_bind};
 
 use crate::fields::{class_word, push_number, push_version};
-use crate::symbols::symbol_of;
 use load_model::{Bind, Def, Face, Name, NoMemory, Run, escape_onto};
 use std::alloc::Global;
 
@@ -103,7 +102,7 @@ fn push_reference(
     ensures { OnOk result (line.new.items
         ≡ line.old.items ++ reference_text faces.now run.now obj sym) }
 {
-    let symbol = symbol_of(faces, run, obj, sym);
+    let symbol = run.symbol_of(faces, obj, sym);
     push_number(alloc, line, obj as usize)?;
     line.extend_from_slice(b" ")?;
     push_number(alloc, line, sym as usize)?;
@@ -128,7 +127,7 @@ fn push_definition(
 {
     match to {
         Some(def) => {
-            let symbol = symbol_of(faces, run, def.obj, def.sym);
+            let symbol = run.symbol_of(faces, def.obj, def.sym);
             push_number(alloc, line, def.obj as usize)?;
             line.extend_from_slice(b" ")?;
             push_version(line, &symbol.version)

@@ -5,7 +5,6 @@
 mod bindings;
 mod fields;
 mod programs;
-mod symbols;
 mod texts;
 
 pub use texts::report;

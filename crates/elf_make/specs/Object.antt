@@ -28,7 +28,8 @@ file_by shape versions texts parts =
 -- the bytes of the file with this shape, by its versions and the texts of its string table
 unfoldable pub object_by : Shape → Versions → List (List ℕ) → List ℕ
 object_by shape versions texts =
-    file_by shape versions texts (made_parts shape versions texts (made_symbols shape texts versions))
+    file_by shape versions texts
+    (made_parts shape versions texts (made_symbols shape texts versions))
 
 -- the bytes of the file with this shape
 unfoldable pub made_object : Shape → List ℕ

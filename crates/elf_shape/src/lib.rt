@@ -1,5 +1,5 @@
-//! What a made ELF file is to show a loader, and what follows from it before any place is known: its
-//! versions, its strings, its symbols, and numbers as bytes.
+//! What a made ELF file is to show a loader, and what follows from it before any place is known:
+//! its versions, its strings, its symbols, and numbers as bytes.
 #![tactic(auto)]
 
 mod distinct;

@@ -200,7 +200,8 @@ impl Chains {
         requires deeper { depth < slice_index self.now.depths.items at }
         ensures known { Knows self.now result }
         ensures reached { Reaches self.now.next.items at result }
-        ensures less { slice_index self.now.depths.items result < slice_index self.now.depths.items at }
+        ensures less { slice_index self.now.depths.items result
+            < slice_index self.now.depths.items at }
         ensures enough { depth ≤ slice_index self.now.depths.items result }
     {
         let jump = word_of(&self.jumps, at);

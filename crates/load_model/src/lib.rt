@@ -34,7 +34,7 @@ pub use laws::{
     recursion_gives_the_stop, run_in_two_worlds,
 };
 pub use lists::List;
-pub use offers::{Offers, is_bindable};
+pub use offers::{Offers, is_bindable, is_shared};
 pub use opening::{OpenFault, Opened, Opener};
 pub use path_text::NoMemory;
 pub use refusals::LoadRefusal;

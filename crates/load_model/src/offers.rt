@@ -182,7 +182,7 @@ pub fn is_bindable(binding: u8, kind: u8, visibility: u8, value_set: bool) -> bo
 }
 
 /// Whether other objects see symbols of this binding.
-fn is_shared(binding: u8) -> bool
+pub fn is_shared(binding: u8) -> bool
     ensures { result ≡ is_shared binding }
 {
     matches!(binding, STB_GLOBAL | STB_WEAK | STB_GNU_UNIQUE)

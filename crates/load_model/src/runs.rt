@@ -1,6 +1,10 @@
 //! What a loader loads and binds: load lists, definitions and bindings, as plain types.
 
-use crate::{Class, List, Name, Text};
+ghost use Rattle.std.specs.Prelude.{◌≡◌, ◌<◌, IsSome, Some, length};
+ghost use Rattle.load_model.specs.Bindings.{symbol_at};
+ghost use Rattle.load_model.specs.Runs.{IsRunOver, face_at};
+
+use crate::{Class, Face, List, Name, Sym, Text};
 use path_text::Abs;
 
 /// An object of a load list. The program is its own loader; another object's loader is the object
@@ -32,6 +36,27 @@ pub struct Run {
     pub roots: List<u32>,
     /// For each opened name its local list.
     pub locals: List<List<u32>>,
+}
+
+impl Run {
+    /// What a loader sees of the object of number `obj`; `faces` is the table of the run.
+    pub fn face_of<'a>(&self, faces: &'a [Face], obj: u32) -> &'a Face
+        requires run { IsRunOver faces.now self.now }
+        requires obj { obj < length self.now.objs }
+        ensures { face_at faces.now self.now obj ≡ Some result.now }
+    {
+        &faces[self.objs.as_slice()[obj as usize].face as usize]
+    }
+
+    /// The symbol of index `sym` of the object of number `obj`.
+    pub fn symbol_of<'a>(&self, faces: &'a [Face], obj: u32, sym: u32) -> &'a Sym
+        requires run { IsRunOver faces.now self.now }
+        requires symbol { IsSome (symbol_at faces.now self.now obj sym) }
+        ensures { symbol_at faces.now self.now obj sym ≡ Some result.now }
+    {
+        let face = &faces[self.objs.as_slice()[obj as usize].face as usize];
+        &face.syms.as_slice()[sym as usize]
+    }
 }
 
 /// A definition: a symbol of an object of a load list.

@@ -45,10 +45,8 @@ pub fn ask<P: Opener>(
     ensures asking { OnOk result (IsAsking loading.old loading.new) }
     ensures target { IfOk result (λ t. t < length loading.new.objs) }
     ensures answer { (loaded : Loaded) → Stands (P.seen opener.old).faces loading.old loaded
-        → IsAskedFor setting.now (P.seen opener.old) (P.seen opener.new) loading.new loaded (record {
-          by = request.entry.by;
-          name = request.entry.name.now;
-        }) result }
+        → IsAskedFor setting.now (P.seen opener.old) (P.seen opener.new) loading.new loaded
+        (record { by = request.entry.by; name = request.entry.name.now }) result }
     ensures grew { OnlyGrew (P.seen opener.old) (P.seen opener.new) }
 {
     if let Err(stop) = check_text(alloc, loading, request) {

@@ -37,8 +37,8 @@ IsReadStop stop = stop ≡ Load (Search (Open Read))
 abbrev pub IsStopAnswer : Setting → OpenerView → OpenerView → List ℕ → List (List ℕ) → ReplayStop
     → Type 0
 IsStopAnswer setting before after start opens stop =
-    WhereTold before.told (λ world. IsRefusedBy (IsReplayStop face_or_flaw setting world start opens)
-    (replay_refusal_of stop))
+    WhereTold before.told (λ world. IsRefusedBy
+    (IsReplayStop face_or_flaw setting world start opens) (replay_refusal_of stop))
     × (IsReadStop stop → Rose before.faults after.faults)
 
 -- The load list of a program whose versions are all met, or the first stop.

@@ -7,7 +7,6 @@ ghost use Rattle.load_model.specs.Runs.{IsRunOver, face_at};
 ghost use Rattle.load_model.specs.VersionCheck.{needs_in};
 ghost use Rattle.scope_lookup.specs.Asking.{asked_names, names_opened_by};
 
-use crate::faces::face_of;
 use load_model::{Face, List, Name, Run};
 use path_text::NoMemory;
 use std::alloc::Global;
@@ -31,7 +30,7 @@ fn names_of(alloc: Global, faces: &[Face], run: &Run, obj: u32) -> Result<List<N
     ensures { IfOk result (λ names. names
         ≡ needs_in (face_at faces.now run.now obj) ++ names_opened_by run.now obj) }
 {
-    let mut names = face_of(faces, run, obj).needs.copy(alloc)?;
+    let mut names = run.face_of(faces, obj).needs.copy(alloc)?;
     if obj == 0 {
         add_names(alloc, run.opens.as_slice(), &mut names)?;
     }

@@ -7,12 +7,10 @@ ghost use Rattle.std.specs.Prelude.{◌≡◌, ◌<◌, ◌∷◌, ◌++◌, [],
 ghost use Rattle.load_model.specs.Bindings.{IsBindOver, all_binds, bind_of, binds_of_object, may_copy, offered_by, symbol_at};
 ghost use Rattle.load_model.specs.Opening.{AreFew};
 ghost use Rattle.load_model.specs.Runs.{IsRunOver};
-ghost use Rattle.load_model.specs.SymbolWords.{is_shared};
 ghost use Rattle.loader_replay.specs.Binding.{binds_at, object_symbol_count};
 
-use crate::faces::face_of;
-use byte_view::constants::{STB_GLOBAL, STB_GNU_UNIQUE, STB_WEAK, STT_OBJECT};
-use load_model::{Bind, Class, Face, List, Offers, Run, Sym};
+use byte_view::constants::STT_OBJECT;
+use load_model::{Bind, Class, Face, List, Offers, Run, Sym, is_shared};
 use path_text::NoMemory;
 use scope_lookup::bind;
 use std::alloc::Global;
@@ -76,7 +74,7 @@ fn add_symbol<F: Offers>(
     requires sym { IsSome (symbol_at faces.now run.now obj sym) }
     ensures { OnOk result (binds.new ≡ binds.old ++ binds_at faces.now run.now obj sym) }
 {
-    let symbol = &face_of(faces, run, obj).syms.as_slice()[sym as usize];
+    let symbol = &run.face_of(faces, obj).syms.as_slice()[sym as usize];
     if is_shared(symbol.binding) {
         add_reference(faces, index, run, obj, sym, Class::Call, binds)?;
         if may_copy(obj, symbol) {
@@ -121,14 +119,7 @@ fn object_symbol_count(faces: &[Face], run: &Run, obj: u32) -> u32
     requires obj { obj < length run.now.objs }
     ensures { result ≡ object_symbol_count faces.now run.now obj }
 {
-    face_of(faces, run, obj).syms.as_slice().len() as u32
-}
-
-/// Whether other objects see symbols of this binding.
-fn is_shared(binding: u8) -> bool
-    ensures { result ≡ is_shared binding }
-{
-    matches!(binding, STB_GLOBAL | STB_WEAK | STB_GNU_UNIQUE)
+    run.face_of(faces, obj).syms.as_slice().len() as u32
 }
 
 /// Whether a symbol of this object may be a copy of another object's: a variable that the program

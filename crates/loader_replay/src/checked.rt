@@ -11,7 +11,6 @@ ghost use Rattle.loader_replay.specs.Checking.{IsCheck, IsStopOf, NamesUnloaded,
 ghost use Rattle.scope_lookup.specs.Asking.{unmet_ask};
 
 use crate::asking::asked_of;
-use crate::faces::face_of;
 use crate::stops::ReplayStop;
 use load_model::{Ask, Face, Name, Obj, Opener, Run, Setting};
 use load_order::load;
@@ -68,12 +67,12 @@ fn stop_of(alloc: Global, faces: &[Face], run: &Run, stop: VersionStop) -> Repla
         VersionStop::VersionFileUnloaded { obj, ask } => unloaded(
             alloc,
             &run.objs.as_slice()[obj as usize],
-            &face_of(faces, run, obj).asks.as_slice()[ask as usize],
+            &run.face_of(faces, obj).asks.as_slice()[ask as usize],
         ),
         VersionStop::UnsatisfiedVersion { obj, ask } => unsatisfied(
             alloc,
             &run.objs.as_slice()[obj as usize],
-            &face_of(faces, run, obj).asks.as_slice()[ask as usize],
+            &run.face_of(faces, obj).asks.as_slice()[ask as usize],
         ),
     }
 }

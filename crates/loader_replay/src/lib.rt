@@ -8,7 +8,6 @@
 mod asking;
 mod bindings;
 mod checked;
-mod faces;
 mod replaying;
 mod stops;
 

@@ -7,7 +7,6 @@ ghost use Rattle.load_model.specs.Bindings.{binds_itself, bound_to, is_copy, is_
 ghost use Rattle.load_model.specs.Opening.{AreFew};
 ghost use Rattle.load_model.specs.Runs.{IsRunOver};
 
-use crate::faces::face_of;
 use crate::lookup::{Reference, first_in_scope};
 use byte_view::constants::{STV_HIDDEN, STV_INTERNAL, STV_PROTECTED};
 use load_model::{Class, Def, Face, Offers, Run, Sym};
@@ -32,7 +31,7 @@ pub fn bind<F: Offers>(
     requires sym { IsSome (symbol_at faces.now run.now obj sym) }
     ensures { result ≡ bound_to faces.now run.now obj sym class }
 {
-    let face = face_of(faces, run, obj);
+    let face = run.face_of(faces, obj);
     let symbol = &face.syms.as_slice()[sym as usize];
     if binds_itself(class, symbol) {
         return Some(Def { obj, sym });

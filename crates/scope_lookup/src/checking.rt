@@ -13,7 +13,6 @@ ghost use Rattle.load_model.specs.Runs.{IsRunOver};
 ghost use Rattle.load_model.specs.VersionCheck.{VersionsMet, first_unmet, has_defined, unmet_of};
 ghost use Rattle.scope_lookup.specs.Asking.{asked_names, unmet_ask};
 
-use crate::faces::face_of;
 use crate::files::version_file;
 use crate::stops::VersionStop;
 use load_model::{Face, List, Name, Run};
@@ -56,7 +55,7 @@ fn check_object(
     requires obj { obj < length run.now.objs }
     ensures { TellsBy unmet_ask result (first_some (unmet_of faces.now run.now obj)) }
 {
-    let face = face_of(faces, run, obj);
+    let face = run.face_of(faces, obj);
     for (place, ask) in face.asks.as_slice().iter().enumerate() {
         if ask.weak {
             continue;
@@ -64,7 +63,7 @@ fn check_object(
         let place = place as u32;
         match version_file(faces, run, asked, obj, &ask.file) {
             Some(file) => {
-                if !has_defined(face_of(faces, run, file).defs.as_slice(), &ask.name) {
+                if !has_defined(run.face_of(faces, file).defs.as_slice(), &ask.name) {
                     return Err(VersionStop::UnsatisfiedVersion { obj, ask: place });
                 }
             }

@@ -11,7 +11,6 @@ ghost use Rattle.load_model.specs.VersionCheck.{loaded_by, phase_at, soname_in, 
 ghost use Rattle.scope_lookup.specs.Asking.{asked_names};
 ghost use Rattle.scope_lookup.specs.Firsts.{earlier, is_request_to, requests_in};
 
-use crate::faces::face_of;
 use load_model::{Face, List, Name, Run};
 
 /// The first object for which the file's name is known at the end of the phase that brought the
@@ -49,7 +48,7 @@ fn first_with_soname(faces: &[Face], run: &Run, phase: u32, file: &Name) -> Opti
         (loaded_by run.now phase) }
 {
     for number in 0..run.objs.as_slice().len() as u32 {
-        if is_loaded(run, number, phase) && has_soname(face_of(faces, run, number), file) {
+        if is_loaded(run, number, phase) && has_soname(run.face_of(faces, number), file) {
             return Some(number);
         }
     }

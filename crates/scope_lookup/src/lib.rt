@@ -8,7 +8,6 @@
 
 mod binding;
 mod checking;
-mod faces;
 mod files;
 mod lookup;
 mod stops;

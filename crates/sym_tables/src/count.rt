@@ -38,7 +38,8 @@ fn is_section_of(bytes: &[u8], addr: u64, at: u64) -> bool
 fn first_section(bytes: &[u8], addr: u64) -> Option<u64>
     requires header { 64 ≤ length bytes.now }
     requires sections { e_shoff bytes.now + 64 * e_shnum bytes.now ≤ length bytes.now }
-    ensures found { result ≡ find (λ at. is_section_of bytes.now addr at) (section_places bytes.now) }
+    ensures found { result
+        ≡ find (λ at. is_section_of bytes.now addr at) (section_places bytes.now) }
     ensures bound { IfSome result (λ at. at + 64 ≤ length bytes.now) }
 {
     let from = xword(bytes, 40);

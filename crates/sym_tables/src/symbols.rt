@@ -58,7 +58,8 @@ pub(crate) fn read_symbols(
 ) -> Result<Vec<RawSym>, SymFault>
     requires { IsReadFrom elf.now bytes.now }
     ensures flaw { TellsBy symbol_fault_flaw result (unbacked_symbols elf.now addr count) }
-    ensures symbols { IfOk result (λ symbols. symbols.items ≡ symbols_in bytes.now elf.now addr count) }
+    ensures symbols { IfOk result (λ symbols. symbols.items
+        ≡ symbols_in bytes.now elf.now addr count) }
     ensures few { IfOk result (λ symbols. length symbols.items < 2 ^ 32) }
 {
     let Some(len) = count.checked_mul(SYM_SIZE) else {
