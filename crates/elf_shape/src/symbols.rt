@@ -11,9 +11,9 @@ use crate::shape::{Export, Import, Shape};
 use crate::strings::Strings;
 use crate::versions::Versions;
 use byte_view::constants::{SHN_UNDEF, STB_GLOBAL};
+use hash_chains::gnu_hash;
 use load_model::{List, Name, NoMemory, Text};
 use std::alloc::Global;
-use sym_tables::gnu_hash;
 
 /// A symbol of a made file.
 #[derive(Clone, Copy)]

@@ -1,6 +1,6 @@
 //! Laws of symbols and hash tables, each the contract of a function that does nothing.
 
-ghost use Rattle.std.specs.Prelude.{◌≡◌, ◌≢◌, ◌≤◌, ◌+◌, ◌↔◌, ◌==◌, ℕ, List, [], Some, None, codes, length, slice_get, true};
+ghost use Rattle.std.specs.Prelude.{◌≡◌, ◌≢◌, ◌≤◌, ◌+◌, ◌↔◌, ◌==◌, ℕ, List, Some, None, length, slice_get, true};
 ghost use Rattle.std.specs.List.{list_any};
 ghost use Rattle.byte_view.specs.Dynamic.{dynamic_entries};
 ghost use Rattle.byte_view.specs.Headers.{headers};
@@ -13,16 +13,6 @@ ghost use Rattle.load_model.specs.GnuTable.{GnuTable, gnu_buckets, gnu_lists, gn
 ghost use Rattle.load_model.specs.declared.symbols.RawSym.{RawSym};
 ghost use Rattle.sym_tables.specs.LeastEnds.{IsLeastEnd};
 ghost use Rattle.sym_tables.specs.Listing.{file_strings};
-
-/// Six values of the hash functions.
-pub fn hash_values()
-    ensures empty { sysv_hash [] ≡ 0 }
-    ensures empty_gnu { gnu_hash [] ≡ 0x1505 }
-    ensures exit { sysv_hash (codes "exit") ≡ 0x0006cf04 }
-    ensures exit_gnu { gnu_hash (codes "exit") ≡ 0x7c967e3f }
-    ensures puts { sysv_hash (codes "puts") ≡ 0x00077cb3 }
-    ensures version { sysv_hash (codes "GLIBC_2.2.5") ≡ 0x09691a75 }
-{}
 
 /// In a file without these flaws the GNU hash table reaches no further than the symbols.
 pub fn reach_within_symbols()

@@ -9,7 +9,6 @@ mod gnu;
 mod gnu_front;
 mod gnu_reach;
 mod gnu_table;
-mod hashes;
 mod laws;
 mod listing;
 mod symbols;
@@ -21,9 +20,7 @@ mod words;
 
 pub use byte_view::Flaw;
 pub use faults::SymFault;
-pub use hashes::{gnu_hash, sysv_hash};
-pub use laws::{
-    chain_is_list, each_table_lists, hash_values, reach_is_least, reach_within_symbols,
-};
+pub use hash_chains::{gnu_hash, sysv_hash};
+pub use laws::{chain_is_list, each_table_lists, reach_is_least, reach_within_symbols};
 pub use load_model::RawSym;
 pub use table::Syms;

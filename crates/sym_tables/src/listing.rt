@@ -10,10 +10,10 @@ ghost use Rattle.sym_tables.specs.FoundTables.{HasBucket};
 ghost use Rattle.sym_tables.specs.Listing.{file_strings, gnu_of, sysv_of};
 
 use crate::faults::{SymFault, flawed};
-use crate::hashes::{gnu_hash, sysv_hash};
 use crate::tables::Tables;
 use byte_view::flaws::HASH_BROKEN;
 use dyn_table::Dyn;
+use hash_chains::{gnu_hash, sysv_hash};
 use load_model::{RawSym, has_value, is_bindable};
 
 /// Is the symbol one that other objects may bind to?

@@ -1,7 +1,7 @@
 -- the values are computed
 use Rattle.std.proofs.Common.{refl}
 use Rattle.load_model.specs.Hashes.{gnu_step, sysv_step}
-use Rattle.sym_tables.proofs.laws.hash_values.Goals as goal
+use Rattle.hash_chains.proofs.laws.hash_values.Goals as goal
 
 pub returns-clause-empty : goal.returns-clause-empty
 unfolding sysv_step gnu_step
