@@ -58,7 +58,7 @@ grew_on a b c p q =
 
 -- the same load in a later phase
 abbrev pub raised : Loading → ℕ → Loading
-raised s p = record { objs = s.objs; known = s.known; targets = s.targets; phase = p }
+raised s p = record { objs = s.objs; known = s.known; ids = s.ids; targets = s.targets; phase = p }
 
 module _ (faces : List Face) (s : Loading) (p : ℕ) where
   pub raised_safe : s.phase ≤ p → IsSafe faces s → IsSafe faces (raised s p)
@@ -67,6 +67,7 @@ module _ (faces : List Face) (s : Loading) (p : ℕ) where
         program = h.program;
         few = h.few;
         known = h.known;
+        ids = h.ids;
         faces_within = h.faces_within;
         own = h.own;
         smaller = h.smaller;

@@ -13,6 +13,7 @@ use Rattle.load_model.specs.Runs.{AreBelow}
 use Rattle.load_model.specs.declared.faces.Face.{Face}
 use Rattle.load_model.specs.declared.runs.Obj.{Obj}
 use Rattle.load_model.specs.declared.setting.Setting.{Setting}
+use Rattle.load_requests.specs.Known.{AreIds, first_known}
 use Rattle.load_requests.specs.Loading.{refusal_of}
 use Rattle.load_order.specs.Needing.{AreAsked, AreAskedTo, AreNeedsOf, requests_by}
 use Rattle.load_requests.specs.Standing.{IsAsking, IsSafe, IsWalked, IsWalkedTo, IsWalking, Stands, asked_to, needs_asked, start_path}
@@ -99,6 +100,7 @@ get_dropped (suc k) (x ∷ xs) i = let z : suc k + i ≡ suc (k + i) = omega ari
 pub record AddsTargets (before after : Loading) (ts : List ℕ) : Type 0 where
   pub objs : after.objs ≡ before.objs
   pub known : after.known ≡ before.known
+  pub ids : after.ids ≡ before.ids
   pub phase : after.phase ≡ before.phase
   pub targets : after.targets ≡ before.targets ++ ts ∷ []
 
@@ -108,7 +110,7 @@ stands_on faces s2 s3 ts loaded adds h = record {
     count = h.objects.count ∙ sym (ap length adds.objs);
     each = λ j x o at there. h.objects.each j x o (ap (λ os. slice_get os j) (sym adds.objs) ∙ at) there;
   };
-  names = λ j known o n at there. h.names j known o n (ap (λ ks. slice_get ks j) (sym adds.known) ∙ at) there;
+  names = λ n. ap (first_known n) adds.known ∙ h.names n;
   loaders = λ j x at. h.loaders j x (ap (λ os. slice_get os j) (sym adds.objs) ∙ at);
   within = h.within;
   brought = h.brought;
@@ -162,7 +164,8 @@ module _ (setting : Setting) (b0 b1 b2 : OpenerView) (s0 s1 s2 s3 : Loading) (ne
         record {
           program = omega (arith, safe.program, ap length adds.objs);
           few = omega (arith, safe.few, ap length adds.objs);
-          known = ap length adds.known ∙ safe.known ∙ sym (ap length adds.objs);
+          known = subst (λ os. (n : List ℕ) (j : ℕ) → first_known n s3.known ≡ Some j → j < length os) (sym adds.objs) (subst (λ k. (n : List ℕ) (j : ℕ) → first_known n k ≡ Some j → j < length s2.objs) (sym adds.known) safe.known);
+          ids = subst (λ os. AreIds s3.ids os) (sym adds.objs) (subst (λ i. AreIds i s2.objs) (sym adds.ids) safe.ids);
           faces_within = subst (λ os. All (λ (x : Obj). x.face < length b2.faces) os) (sym adds.objs) safe.faces_within;
           own = λ x at. safe.own x (ap (λ os. slice_get os 0) (sym adds.objs) ∙ at);
           smaller = λ j x some at. safe.smaller j x some (ap (λ os. slice_get os j) (sym adds.objs) ∙ at);

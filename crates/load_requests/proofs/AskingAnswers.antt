@@ -1,8 +1,7 @@
 -- What asking for a name answers.
-use Rattle.std.proofs.Common.{◌≡◌, ◌∙◌, sym, ap, refl, subst, ℕ, zero, suc, ◌<◌, List, [], Option, Some, None, option_map, Result, Ok, Err, get_or, length, position, slice_get, arith}
+use Rattle.std.proofs.Common.{◌≡◌, ◌∙◌, sym, ap, refl, subst, ℕ, zero, suc, ◌<◌, List, Option, Some, None, option_map, Result, Ok, Err, length, slice_get, arith}
 use Rattle.std.specs.Option.{unwrap_or}
-use Rattle.std.proofs.lemmas.List.Quantifiers.{position-Some}
-use Rattle.std.proofs.lemmas.Option.{slice_get-get_or}
+use Rattle.std.specs.Str.{bytes_eq}
 use Rattle.load_model.specs.Candidates.{asker_path, candidates, first_decision, found_or, loader_in, path_search, refused_text}
 use Rattle.load_model.specs.Faces.{face_or_flaw}
 use Rattle.load_model.specs.LoadList.{Asked, Known, Loaded, Object, Request, Search as SearchFor, by_name, by_search, first_place, found_for, is_known, with_found}
@@ -22,16 +21,17 @@ use Rattle.search_paths.specs.declared.hits.Hit.TheVariants.{Found as FoundAt, M
 use Rattle.search_paths.specs.declared.hits.SearchStop.{SearchStop}
 use Rattle.search_paths.specs.declared.hits.SearchStop.TheVariants.{RelativeItem as StopsRelative, TokenUnset as StopsUnset, Open, NoMemory as SearchNoMemory}
 use Rattle.load_requests.specs.Asking.{IsTaken, IsTextAnswer, goes_for}
-use Rattle.load_requests.specs.Known.{has_name}
+use Rattle.load_requests.specs.Known.{IsLearnt, first_known}
 use Rattle.load_requests.specs.Loading.{IsRefusedBy, refusal_of}
 use Rattle.load_requests.specs.Standing.{IsAskedFor, IsSafe, Stands, start_path}
 use Rattle.load_requests.specs.declared.loading.Loading.{Loading}
 use Rattle.load_requests.specs.declared.stops.LoadStop.{LoadStop}
 use Rattle.load_requests.specs.declared.stops.LoadStop.TheVariants.{MissingLibrary as Misses, Search}
 use Rattle.load_requests.proofs.AskingChains.{candidates_same}
-use Rattle.load_requests.proofs.AskingFound.{AreLearnt, stands_known}
-use Rattle.load_requests.proofs.AskingPlaces.{same_place, within_get}
-use Rattle.load_requests.proofs.AskingSteps.{none_learnt, same_some}
+use Rattle.load_requests.proofs.AskingFound.{stands_known}
+use Rattle.load_requests.proofs.AskingPlaces.{within_get}
+use Rattle.load_requests.proofs.AskingSteps.{same_some}
+use Rattle.load_requests.proofs.KnownLemmas.{learnt_not}
 
 refused_by : (P Q : LoadRefusal → Type 0) (m : Option LoadRefusal) → ((x : LoadRefusal) → P x → Q x) → IsRefusedBy P m → IsRefusedBy Q m
 refused_by P Q None f h = tt
@@ -71,23 +71,19 @@ module _ (setting : Setting) (before after : OpenerView) (s : Loading) (loaded :
     λ e. absurd (h.1 e),
   )
 
-  named : length s.known ≡ length s.objs → position (has_name r.name) s.known ≡ first_place (is_known loaded.log r.name) 0 loaded.objs
-  named known = same_place (has_name r.name) (is_known loaded.log r.name) s.known loaded.objs (st.objects.count ∙ sym known) (λ j names o g h. st.names j names o r.name g h)
-
-  pub asked_known : (new : Loading) (i : ℕ) → IsSafe before.faces s → refused_text loaded.objs r ≡ None → position (has_name r.name) s.known ≡ Some i → new.objs ≡ s.objs → new.known ≡ s.known → after.faces ≡ before.faces → IsAskedFor setting before after new loaded r (Ok i)
+  pub asked_known : (new : Loading) (i : ℕ) → IsSafe before.faces s → refused_text loaded.objs r ≡ None → first_known r.name s.known ≡ Some i → new.objs ≡ s.objs → new.known ≡ s.known → after.faces ≡ before.faces → IsAskedFor setting before after new loaded r (Ok i)
   asked_known new i safe text at objs known same =
-      let p = position-Some (has_name r.name) s.known i [] at in
-      let c = st.objects.count in
-      let k = safe.known in (
+      let below = safe.known r.name i at in
+      let c = st.objects.count in (
         Known i,
         refl,
-        subst (λ faces. Stands faces new (with_found loaded r (Known i))) (sym same) (stands_known before.faces s new loaded st r i (omega (arith, p.0, c, k)) objs (subst (λ l. AreLearnt s.known l r.name i) (sym known) (none_learnt s.known r.name i (get_or s.known i []) (slice_get-get_or s.known i [] p.0) p.1))),
-        λ world told. goes_named setting world (start_path loaded) loaded.objs loaded.log r (Some i) text (sym (named safe.known) ∙ at),
+        subst (λ faces. Stands faces new (with_found loaded r (Known i))) (sym same) (stands_known before.faces s new loaded st r i (omega (arith, below, c)) objs (subst (λ l. IsLearnt (bytes_eq r.name) i s.known l) (sym known) (learnt_not r.name i s.known at))),
+        λ world told. goes_named setting world (start_path loaded) loaded.objs loaded.log r (Some i) text (sym (st.names r.name) ∙ at),
       )
 
   -- ---- nothing is known by the name, and so it is searched for
 
-  module _ (objs : List Obj) (is : objs ≡ s.objs) (safe : IsSafe before.faces s) (below : r.by < length s.objs) (text : refused_text loaded.objs r ≡ None) (none : position (has_name r.name) s.known ≡ None) where
+  module _ (objs : List Obj) (is : objs ≡ s.objs) (safe : IsSafe before.faces s) (below : r.by < length s.objs) (text : refused_text loaded.objs r ≡ None) (none : first_known r.name s.known ≡ None) where
     abbrev Decided : World → Option (Result Object LoadRefusal) → Type 0
     Decided world d = (objects : List Object) → AreObjects before.faces objs objects → first_decision face_or_flaw setting world (candidates setting objects (loader_by objs) r) ≡ d
 
@@ -101,7 +97,7 @@ module _ (setting : Setting) (before after : OpenerView) (s : Loading) (loaded :
     smaller_loaders j pos b = let x = within_get s.objs j b in let e = loader_is j x.0 x.1 in let l = safe.smaller j x.0 pos x.1 in omega (arith, e, l, b)
 
     goes : (world : World) (d : Option (Result Object LoadRefusal)) → Decided world d → goes_to face_or_flaw setting world (start_path loaded) loaded.objs loaded.log r ≡ by_search (TooManyObjects (start_path loaded)) MOST_OBJECTS (path_search face_or_flaw setting world) loaded.objs (found_or face_or_flaw setting world (MissingLibrary r.name (asker_path loaded.objs r)) d)
-    goes world d h = goes_decided setting world (start_path loaded) loaded.objs loaded.log r d text (sym (named safe.known) ∙ none)
+    goes world d h = goes_decided setting world (start_path loaded) loaded.objs loaded.log r d text (sym (st.names r.name) ∙ none)
         (sym (ap (first_decision face_or_flaw setting world) (candidates_same (loader_by objs) (loader_in loaded.log) (length s.objs) same_loaders smaller_loaders setting loaded.objs r below))
         ∙ h loaded.objs (subst (λ os. AreObjects before.faces os loaded.objs) (sym is) st.objects))
 

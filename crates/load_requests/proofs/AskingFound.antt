@@ -1,19 +1,21 @@
 -- One request more: what is loaded after it.
-use Rattle.std.proofs.Common.{◌≡◌, ◌∙◌, sym, ap, refl, subst, ℕ, zero, suc, ◌+◌, ◌<◌, ◌≤◌, ◌⊎◌, List, [], ◌∷◌, ◌++◌, Bool, true, false, cond, ltb, ◌==◌, ◌&&◌, ◌||◌, Option, Some, None, length, slice_get, arith, inl, inr, length-append}
+use Rattle.std.proofs.Common.{◌≡◌, ◌∙◌, sym, ap, refl, subst, ℕ, zero, suc, ◌+◌, ◌<◌, ◌≤◌, ◌⊎◌, List, [], ◌∷◌, ◌++◌, Bool, true, false, cond, ltb, ◌==◌, ◌&&◌, ◌||◌, Some, length, slice_get, arith, inl, inr, length-append, min}
 use Rattle.std.specs.List.{list_any}
+use Rattle.std.specs.Option.{option_map_or}
 use Rattle.std.specs.Str.{bytes_eq}
 use Rattle.std.proofs.lemmas.Bool.{cases_Bool, eq-eqb, ne_eqb, ltb-false, ltb-true, or_left, or_right}
 use Rattle.std.proofs.lemmas.List.Folds.{list_any-append}
 use Rattle.std.proofs.lemmas.Option.{slice_get_within}
 use Rattle.load_model.specs.Candidates.{loader_in}
-use Rattle.load_model.specs.LoadList.{Asked, Brought, Known, Loaded, Object, Request, is_known, is_named, with_found}
+use Rattle.load_model.specs.LoadList.{Asked, Brought, Known, Loaded, Object, Request, first_place, is_known, is_named, with_found}
 use Rattle.load_model.specs.Runs.{AreObjects, loader_of}
 use Rattle.load_model.specs.declared.faces.Face.{Face}
 use Rattle.load_model.specs.declared.runs.Obj.{Obj}
-use Rattle.load_requests.specs.Known.{has_name, soname_names}
+use Rattle.load_requests.specs.Known.{IsLearnt, first_known}
 use Rattle.load_requests.specs.Standing.{Stands}
 use Rattle.load_requests.specs.declared.loading.Loading.{Loading}
 use Rattle.load_requests.proofs.AskingPlaces.{all_at, all_more, all_push, pushed_get}
+use Rattle.load_requests.proofs.FirstLemmas.{place_last, place_more}
 
 -- ---- loaders
 
@@ -58,26 +60,17 @@ known_more log a n j o =
     ap (λ b. b || is_named o.face.soname n) (list_any-append (λ b. bytes_eq b.request.name n && (b.target == j)) log (a ∷ []))
     ∙ or_swap (list_any (λ b. bytes_eq b.request.name n && (b.target == j)) log) (is_named o.face.soname n) (bytes_eq a.request.name n && (a.target == j))
 
-pub or_none : (x y : Bool) → y ≡ false → (x || y) ≡ x
+or_none : (x y : Bool) → y ≡ false → (x || y) ≡ x
 or_none true y h = refl
 or_none false y h = h
 
-pub or_some : (x y : Bool) → (y ≡ true → x ≡ true) → (x || y) ≡ x
-or_some true y h = refl
-or_some false true h = sym (h refl)
-or_some false false h = refl
-
-pub and_no : (x y : Bool) → y ≡ false → (x && y) ≡ false
+and_no : (x y : Bool) → y ≡ false → (x && y) ≡ false
 and_no true y h = h
 and_no false y h = refl
 
-pub and_yes : (x y : Bool) → y ≡ true → (x && y) ≡ x
+and_yes : (x y : Bool) → y ≡ true → (x && y) ≡ x
 and_yes true y h = h
 and_yes false y h = refl
-
-pub both : (x y : Bool) → (x && y) ≡ true → (x ≡ true) × (y ≡ true)
-both true y h = (refl, h)
-both false y h = cc
 
 none_goes : (log : List Asked) (n : List ℕ) (k : ℕ) → ((i : ℕ) (b : Asked) → slice_get log i ≡ Some b → b.target < k) → list_any (λ a. bytes_eq a.request.name n && (a.target == k)) log ≡ false
 none_goes [] n k h = refl
@@ -86,31 +79,16 @@ none_goes (a ∷ log) n k h =
     ap (λ b. b || list_any (λ a. bytes_eq a.request.name n && (a.target == k)) log) (and_no (bytes_eq a.request.name n) (a.target == k) (ne_eqb a.target k (λ e. omega (arith, e, less))))
     ∙ none_goes log n k (λ i b g. h (suc i) b g)
 
-pub soname_named : (soname : Option (List ℕ)) (n : List ℕ) → has_name n (soname_names soname) ≡ is_named soname n
-soname_named None n = refl
-soname_named (Some s) n = or_none (bytes_eq s n) false refl
-
-new_names : (soname : Option (List ℕ)) (name n : List ℕ) → has_name n (soname_names soname ++ name ∷ []) ≡ (is_named soname n || bytes_eq name n)
-new_names soname name n =
-    list_any-append (λ known. bytes_eq known n) (soname_names soname) (name ∷ [])
-    ∙ ap (λ b. b || (bytes_eq name n || false)) (soname_named soname n)
-    ∙ ap (λ b. is_named soname n || b) (or_none (bytes_eq name n) false refl)
-
--- the names after a request that went to one of the objects
-abbrev pub AreLearnt : List (List (List ℕ)) → List (List (List ℕ)) → List ℕ → ℕ → Type 0
-AreLearnt before after name i = (j : ℕ) (names : List (List ℕ)) → slice_get after j ≡ Some names → (old : List (List ℕ)) × (slice_get before j ≡ Some old) × ((n : List ℕ) → has_name n names ≡ (has_name n old || (bytes_eq name n && (i == j))))
-
 -- ---- a request that went to an object that is loaded
 
 module _ (faces : List Face) (s new : Loading) (loaded : Loaded) (st : Stands faces s loaded) (r : Request) where
-  pub stands_known : (i : ℕ) → i < length loaded.objs → new.objs ≡ s.objs → AreLearnt s.known new.known r.name i → Stands faces new (with_found loaded r (Known i))
+  pub stands_known : (i : ℕ) → i < length loaded.objs → new.objs ≡ s.objs → IsLearnt (bytes_eq r.name) i s.known new.known → Stands faces new (with_found loaded r (Known i))
   stands_known i below objs learnt = record {
     objects = subst (λ os. AreObjects faces os loaded.objs) (sym objs) st.objects;
-    names = λ j names o n gk go.
-        let old = learnt j names gk in
-        old.2 n
-        ∙ ap (λ b. b || (bytes_eq r.name n && (i == j))) (st.names j old.0 o n old.1 go)
-        ∙ sym (known_more loaded.log (record { request = r; target = i }) n j o);
+    names = λ n.
+        learnt n
+        ∙ ap (λ p. cond (bytes_eq r.name n) (Some (option_map_or (min i) p i)) p) (st.names n)
+        ∙ sym (place_more (bytes_eq r.name n) (is_known loaded.log n) (is_known (loaded.log ++ record { request = r; target = i } ∷ []) n) i loaded.objs below (λ j o g. known_more loaded.log (record { request = r; target = i }) n j o));
     loaders = λ j x g.
         let there : slice_get s.objs j ≡ Some x = ap (λ os. slice_get os j) (sym objs) ∙ g in
         let inside = slice_get_within s.objs j x there in
@@ -158,20 +136,26 @@ module _ (faces : List Face) (s new : Loading) (loaded : Loaded) (st : Stands fa
     ];
   }
 
-  names_brought : length s.known ≡ length s.objs → (j : ℕ) (names : List (List ℕ)) (p : Object) (n : List ℕ) → slice_get (s.known ++ (soname_names o.face.soname ++ r.name ∷ []) ∷ []) j ≡ Some names → slice_get (loaded.objs ++ o ∷ []) j ≡ Some p → has_name n names ≡ is_known (loaded.log ++ last ∷ []) n j p
-  names_brought known j names p n g h = elim (old_or_new s.known loaded.objs (soname_names o.face.soname ++ r.name ∷ []) o j names p (count_is ∙ sym known) g h) [
-    | inl w ↦ let inside = slice_get_within loaded.objs j p w.1 in
-        st.names j names p n w.0 w.1
-        ∙ sym (or_none (is_known loaded.log n j p) (bytes_eq r.name n && (length loaded.objs == j)) (and_no (bytes_eq r.name n) (length loaded.objs == j) (ne_eqb (length loaded.objs) j (λ e. omega (arith, e, inside)))))
-        ∙ sym (known_more loaded.log last n j p)
-    | inr w ↦
-        let at : j ≡ length loaded.objs = w.0 ∙ known ∙ sym count_is in
-        ap (has_name n) (sym w.1) ∙ new_names o.face.soname r.name n
-        ∙ sym (ap (λ b. b || bytes_eq r.name n) (ap (λ b. b || is_named o.face.soname n) (none_goes loaded.log n j (λ i b e. subst (λ k. b.target < k) (sym at) (below_last i b e)))))
-        ∙ sym (ap (λ b. is_known loaded.log n j o || b) (and_yes (bytes_eq r.name n) (length loaded.objs == j) (eq-eqb (length loaded.objs) j (sym at))))
-        ∙ sym (known_more loaded.log last n j o)
-        ∙ ap (is_known (loaded.log ++ last ∷ []) n j) w.2
-  ]
+  -- the name is known now where it is the soname or the one that was asked for
+  known_last : (n : List ℕ) → is_known (loaded.log ++ last ∷ []) n (length loaded.objs) o ≡ (is_named o.face.soname n || bytes_eq r.name n)
+  known_last n =
+      known_more loaded.log last n (length loaded.objs) o
+      ∙ ap (λ b. (b || is_named o.face.soname n) || (bytes_eq r.name n && (length loaded.objs == length loaded.objs))) (none_goes loaded.log n (length loaded.objs) below_last)
+      ∙ ap (λ b. is_named o.face.soname n || b) (and_yes (bytes_eq r.name n) (length loaded.objs == length loaded.objs) (eq-eqb (length loaded.objs) (length loaded.objs) refl))
+
+  known_still : (n : List ℕ) (j : ℕ) (p : Object) → slice_get loaded.objs j ≡ Some p → is_known (loaded.log ++ last ∷ []) n j p ≡ is_known loaded.log n j p
+  known_still n j p g =
+      let inside = slice_get_within loaded.objs j p g in
+      known_more loaded.log last n j p
+      ∙ or_none (is_known loaded.log n j p) (bytes_eq r.name n && (length loaded.objs == j)) (and_no (bytes_eq r.name n) (length loaded.objs == j) (ne_eqb (length loaded.objs) j (λ e. omega (arith, e, inside))))
+
+  names_brought : IsLearnt (λ n. is_named o.face.soname n || bytes_eq r.name n) (length s.objs) s.known new.known → (n : List ℕ) → first_known n new.known ≡ first_place (is_known (loaded.log ++ last ∷ []) n) 0 (loaded.objs ++ o ∷ [])
+  names_brought learnt n =
+      learnt n
+      ∙ ap (λ k. cond (is_named o.face.soname n || bytes_eq r.name n) (Some (option_map_or (min k) (first_known n s.known) k)) (first_known n s.known)) (sym count_is)
+      ∙ ap (λ p. cond (is_named o.face.soname n || bytes_eq r.name n) (Some (option_map_or (min (length loaded.objs)) p (length loaded.objs))) p) (st.names n)
+      ∙ ap (λ b. cond b (Some (option_map_or (min (length loaded.objs)) (first_place (is_known loaded.log n) 0 loaded.objs) (length loaded.objs))) (first_place (is_known loaded.log n) 0 loaded.objs)) (sym (known_last n))
+      ∙ sym (place_last (is_known loaded.log n) (is_known (loaded.log ++ last ∷ []) n) loaded.objs o (known_still n))
 
   loaders_brought : 0 < length s.objs → x.loader ≡ r.by → (j : ℕ) (y : Obj) → slice_get (s.objs ++ x ∷ []) j ≡ Some y → y.loader ≡ loader_of (loaded.log ++ last ∷ []) j
   loaders_brought program by j y g = elim (pushed_get s.objs x j y g) [
@@ -193,12 +177,12 @@ module _ (faces : List Face) (s new : Loading) (loaded : Loaded) (st : Stands fa
         ]))
       ]
 
-  pub stands_brought : 0 < length s.objs → length s.known ≡ length s.objs → (o.path ≡ x.path) → (o.id ≡ x.id) → (slice_get faces x.face ≡ Some o.face) → x.loader ≡ r.by → new.objs ≡ s.objs ++ x ∷ [] → new.known ≡ s.known ++ (soname_names o.face.soname ++ r.name ∷ []) ∷ [] → Stands faces new (with_found loaded r (Brought o))
-  stands_brought program known path id face by objs names =
+  pub stands_brought : 0 < length s.objs → (o.path ≡ x.path) → (o.id ≡ x.id) → (slice_get faces x.face ≡ Some o.face) → x.loader ≡ r.by → new.objs ≡ s.objs ++ x ∷ [] → IsLearnt (λ n. is_named o.face.soname n || bytes_eq r.name n) (length s.objs) s.known new.known → Stands faces new (with_found loaded r (Brought o))
+  stands_brought program path id face by objs learnt =
       let size : length (loaded.objs ++ o ∷ []) ≡ length loaded.objs + 1 = length-append loaded.objs (o ∷ []) in
       record {
         objects = subst (λ os. AreObjects faces os (loaded.objs ++ o ∷ [])) (sym objs) (objects_brought path id face);
-        names = λ j ns p n g h. names_brought known j ns p n (ap (λ l. slice_get l j) (sym names) ∙ g) h;
+        names = names_brought learnt;
         loaders = λ j y g. loaders_brought program by j y (ap (λ l. slice_get l j) (sym objs) ∙ g);
         within = all_push (λ a. a.target < length (loaded.objs ++ o ∷ [])) loaded.log last (all_more (λ a. a.target < length loaded.objs) (λ a. a.target < length (loaded.objs ++ o ∷ [])) loaded.log (λ a b. omega (arith, b, size)) st.within) (omega (arith, size));
         brought = brought_too;

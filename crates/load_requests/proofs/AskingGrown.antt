@@ -37,6 +37,7 @@ module _ (before after : List Face) (faces : take (length before) after ≡ befo
     program = safe.program;
     few = safe.few;
     known = safe.known;
+    ids = safe.ids;
     faces_within = all_more (λ x. x.face < length before) (λ x. x.face < length after) s.objs (λ x b. omega (arith, b, longer)) safe.faces_within;
     own = safe.own;
     smaller = safe.smaller;

@@ -1,24 +1,25 @@
--- The steps of a request: its text, what is learnt, and the object that is added.
-use Rattle.std.proofs.Common.{◌≡◌, ◌≢◌, ◌∙◌, sym, ap, refl, subst, ℕ, zero, suc, ◌+◌, ◌<◌, ◌≤◌, ◌⊎◌, List, [], ◌∷◌, ◌++◌, true, false, cond, ◌==◌, ◌&&◌, ◌||◌, Option, Some, None, option_map, Result, Ok, Err, OnOk, All, get_or, length, take, position, set, slice_get, arith, inl, inr, length-append, take_all}
+-- The steps of a request: its text, and the object that is added.
+use Rattle.std.proofs.Common.{◌≡◌, ◌∙◌, sym, ap, refl, subst, ℕ, ◌+◌, ◌<◌, ◌≤◌, List, [], ◌∷◌, ◌++◌, true, false, cond, ◌||◌, Option, Some, None, option_map, Result, Ok, Err, OnOk, All, length, take, position, slice_get, arith, inl, inr, length-append, take_all, min}
+use Rattle.std.specs.Option.{option_map_or}
 use Rattle.std.specs.Str.{bytes_eq}
-use Rattle.std.proofs.lemmas.Bool.{eq-eqb, eqb-true, ne_eqb, le-ltb, lt-ltb}
-use Rattle.std.proofs.lemmas.List.Folds.{list_any-append}
+use Rattle.std.proofs.lemmas.Bool.{le-ltb, lt-ltb}
 use Rattle.std.proofs.lemmas.Option.{slice_get_within}
-use Rattle.load_model.proofs.TwoWorlds.{same_bytes}
 use Rattle.load_model.specs.Candidates.{asker_path, has_dollar, is_relative, path_by, refused_text}
-use Rattle.load_model.specs.LoadList.{Brought, Known, Loaded, Object, Request, by_id, first_place}
+use Rattle.load_model.specs.LoadList.{Brought, Known, Loaded, Object, Request, by_id, first_place, is_named}
 use Rattle.load_model.specs.Runs.{AreBelow, AreObjects}
 use Rattle.load_model.specs.declared.faces.Face.{Face}
 use Rattle.load_model.specs.declared.limits.TheConstants.{MOST_OBJECTS}
 use Rattle.load_model.specs.declared.refusals.LoadRefusal.TheVariants.{RelativeNeed, TokenInNeed, TooManyObjects}
 use Rattle.load_model.specs.declared.runs.Obj.{Obj}
 use Rattle.load_requests.specs.Asking.{IsAdded, IsTaken, IsTextAnswer}
-use Rattle.load_requests.specs.Known.{has_name, soname_names}
+use Rattle.load_requests.specs.Known.{AreIds, IsLearnt, first_known}
 use Rattle.load_requests.specs.Standing.{IsAsking, IsSafe, Stands, start_path}
 use Rattle.load_requests.specs.declared.loading.Loading.{Loading}
 use Rattle.load_requests.specs.declared.stops.LoadStop.TheVariants.{RelativeNeed as NeedsRelative, TokenInNeed as NeedsToken, TooManyObjects as Overflows}
-use Rattle.load_requests.proofs.AskingFound.{AreLearnt, and_no, and_yes, both, or_none, or_some, stands_brought, stands_known}
+use Rattle.load_requests.proofs.AskingFound.{stands_brought, stands_known}
 use Rattle.load_requests.proofs.AskingPlaces.{all_more, all_push, pushed_front, pushed_get, same_place, within_get}
+use Rattle.load_requests.proofs.FirstLemmas.{position_last}
+use Rattle.load_requests.proofs.KnownLemmas.{learnt_within}
 
 pub on_ok : {T E : Type 0} {A B : Type 0} (r : Result T E) → (A → B) → OnOk r A → OnOk r B
 on_ok (Ok v) f h = f h
@@ -55,53 +56,14 @@ pub text_passes : (objects : List Object) (r : Request) → has_dollar r.name �
 unfolding refused_text
 text_passes objects r f g = ap (λ b. cond b (Some (TokenInNeed r.name (asker_path objects r))) (cond (is_relative r.name) (Some (RelativeNeed r.name (asker_path objects r))) None)) f ∙ ap (λ b. cond b (Some (RelativeNeed r.name (asker_path objects r))) None) g
 
--- ---- what is learnt
-
-learnt_at : (known : List (List (List ℕ))) (i j : ℕ) (name : List ℕ) (names : List (List ℕ)) → slice_get (set known i (get_or known i [] ++ name ∷ [])) j ≡ Some names → (old : List (List ℕ)) × (slice_get known j ≡ Some old) × (((i ≡ j) × (names ≡ old ++ name ∷ [])) ⊎ ((i ≢ j) × (names ≡ old)))
-learnt_at [] i j name names g = cc
-learnt_at (k ∷ ks) zero zero name names g = (k, refl, inl (refl, (let e : k ++ name ∷ [] ≡ names = cc in sym e)))
-learnt_at (k ∷ ks) zero (suc j) name names g = (names, g, inr ((λ e. omega (arith, e)), refl))
-learnt_at (k ∷ ks) (suc i) zero name names g = (k, refl, inr ((λ e. omega (arith, e)), (let e : k ≡ names = cc in sym e)))
-learnt_at (k ∷ ks) (suc i) (suc j) name names g =
-    let rest = learnt_at ks i j name names g in (
-      rest.0,
-      rest.1,
-      elim rest.2 [
-        | inl h ↦ inl (ap suc h.0, h.1)
-        | inr h ↦ inr ((λ e. h.0 (omega (arith, e))), h.1)
-      ],
-    )
-
-pub are_learnt : (known after : List (List (List ℕ))) (name : List ℕ) (i : ℕ) → after ≡ set known i (get_or known i [] ++ name ∷ []) → AreLearnt known after name i
-are_learnt known after name i e j names g =
-    let at = learnt_at known i j name names (sym (ap (λ l. slice_get l j) e) ∙ g) in (
-      at.0,
-      at.1,
-      λ n. elim at.2 [
-        | inl h ↦ ap (has_name n) h.1 ∙ list_any-append (λ k. bytes_eq k n) at.0 (name ∷ []) ∙ ap (λ b. has_name n at.0 || b) (or_none (bytes_eq name n) false refl ∙ sym (and_yes (bytes_eq name n) (i == j) (eq-eqb i j h.0)))
-        | inr h ↦ ap (has_name n) h.1 ∙ sym (or_none (has_name n at.0) (bytes_eq name n && (i == j)) (and_no (bytes_eq name n) (i == j) (ne_eqb i j h.0)))
-      ],
-    )
-
--- nothing is to be learnt of an object that is known by the name
-pub none_learnt : (known : List (List (List ℕ))) (name : List ℕ) (i : ℕ) (names : List (List ℕ)) → slice_get known i ≡ Some names → has_name name names ≡ true → AreLearnt known known name i
-none_learnt known name i names at has j old g = (
-  old,
-  g,
-  λ n. sym (or_some (has_name n old) (bytes_eq name n && (i == j)) (λ t.
-      let two = both (bytes_eq name n) (i == j) t in
-      let same : name ≡ n = same_bytes name n two.0 in
-      let there : names ≡ old = same_some names old (sym at ∙ ap (slice_get known) (eqb-true i j two.1) ∙ g) in
-      sym (ap (has_name n) there) ∙ sym (ap (λ m. has_name m names) same) ∙ has)),
-)
-
 -- ---- numbers stay in range
 
-pub safe_same : (faces : List Face) (s new : Loading) → IsSafe faces s → new.objs ≡ s.objs → length new.known ≡ length s.known → new.targets ≡ s.targets → new.phase ≡ s.phase → IsSafe faces new
-safe_same faces s new safe objs known targets phase = record {
+pub safe_same : (faces : List Face) (s new : Loading) → IsSafe faces s → new.objs ≡ s.objs → ((n : List ℕ) (j : ℕ) → first_known n new.known ≡ Some j → j < length s.objs) → new.ids ≡ s.ids → new.targets ≡ s.targets → new.phase ≡ s.phase → IsSafe faces new
+safe_same faces s new safe objs known ids targets phase = record {
   program = subst (λ l. 0 < length l) (sym objs) safe.program;
   few = subst (λ l. length l ≤ MOST_OBJECTS) (sym objs) safe.few;
-  known = known ∙ safe.known ∙ sym (ap (λ l. length l) objs);
+  known = subst (λ l. (n : List ℕ) (j : ℕ) → first_known n new.known ≡ Some j → j < length l) (sym objs) known;
+  ids = subst (λ l. AreIds new.ids l) (sym objs) (subst (λ i. AreIds i s.objs) (sym ids) safe.ids);
   faces_within = subst (λ l. All (λ x. x.face < length faces) l) (sym objs) safe.faces_within;
   own = λ x g. safe.own x (ap (λ l. slice_get l 0) (sym objs) ∙ g);
   smaller = λ j x pos g. safe.smaller j x pos (ap (λ l. slice_get l j) (sym objs) ∙ g);
@@ -120,6 +82,14 @@ asking_same s new objs targets phase = record {
   new_phase = λ j x from g. absurd (let inside = slice_get_within s.objs j x (ap (λ l. slice_get l j) (sym objs) ∙ g) in omega (arith, from, inside));
 }
 
+-- the identities, with the one of the object that was added
+pub ids_added : (objs after : List Obj) (x : Obj) (ids new : List (List ℕ × ℕ)) → after ≡ objs ++ x ∷ [] → IsLearnt (bytes_eq x.id) (length objs) ids new → AreIds ids objs → AreIds new after
+ids_added objs after x ids new is learnt are id =
+    learnt id
+    ∙ ap (λ p. cond (bytes_eq x.id id) (Some (option_map_or (min (length objs)) p (length objs))) p) (are id)
+    ∙ sym (position_last (λ (y : Obj). bytes_eq y.id id) objs x)
+    ∙ ap (position (λ (y : Obj). bytes_eq y.id id)) (sym is)
+
 module _ (faces : List Face) (name : List ℕ) (x : Obj) (s new : Loading) (added : IsAdded faces name x s new) where
   longer_by_one : length new.objs ≡ length s.objs + 1
   longer_by_one = ap (λ l. length l) added.objs ∙ length-append s.objs (x ∷ [])
@@ -131,7 +101,8 @@ module _ (faces : List Face) (name : List ℕ) (x : Obj) (s new : Loading) (adde
   safe_added safe room face loader phase = record {
     program = omega (arith, longer_by_one);
     few = omega (arith, longer_by_one, room);
-    known = ap (λ l. length l) added.known ∙ length-append s.known ((soname_names added.face.soname ++ name ∷ []) ∷ []) ∙ ap (λ n. n + 1) safe.known ∙ sym longer_by_one;
+    known = learnt_within (λ n. is_named added.face.soname n || bytes_eq name n) (length s.objs) (length new.objs) s.known new.known added.known (omega (arith, longer_by_one)) (λ n j e. let b = safe.known n j e in omega (arith, b, longer_by_one));
+    ids = ids_added s.objs new.objs x s.ids new.ids added.objs added.ids safe.ids;
     faces_within = subst (λ l. All (λ y. y.face < length faces) l) (sym added.objs) (all_push (λ y. y.face < length faces) s.objs x safe.faces_within face);
     own = λ y g. elim (pushed_get s.objs x 0 y (ap (λ l. slice_get l 0) (sym added.objs) ∙ g)) [
       | inl h ↦ safe.own y h
@@ -174,11 +145,11 @@ module _ (faces : List Face) (s new : Loading) (loaded : Loaded) (st : Stands fa
   same_id : (id : List ℕ) → o.id ≡ id → position (λ x. bytes_eq x.id id) s.objs ≡ first_place (λ j x. bytes_eq x.id o.id) 0 loaded.objs
   same_id id e = same_place (λ (x : Obj). bytes_eq x.id id) (λ j x. bytes_eq x.id o.id) s.objs loaded.objs st.objects.count (λ j x p g h. sym (ap (λ i. bytes_eq i o.id) (st.objects.each j x p g h).1 ∙ ap (bytes_eq x.id) e))
 
-  pub taken_known : (id : List ℕ) (i : ℕ) → o.id ≡ id → position (λ x. bytes_eq x.id id) s.objs ≡ Some i → i < length s.objs → new.objs ≡ s.objs → new.known ≡ set s.known i (get_or s.known i [] ++ r.name ∷ []) → IsTaken faces new loaded r o (Ok i)
-  taken_known id i e at below objs known = (
+  pub taken_known : (id : List ℕ) (i : ℕ) → o.id ≡ id → position (λ x. bytes_eq x.id id) s.objs ≡ Some i → i < length s.objs → new.objs ≡ s.objs → IsLearnt (bytes_eq r.name) i s.known new.known → IsTaken faces new loaded r o (Ok i)
+  taken_known id i e at below objs learnt = (
     Known i,
     refl,
-    stands_known faces s new loaded st r i (let c = st.objects.count in omega (arith, below, c)) objs (are_learnt s.known new.known r.name i known),
+    stands_known faces s new loaded st r i (let c = st.objects.count in omega (arith, below, c)) objs learnt,
     λ search. ap (by_id (TooManyObjects (start_path loaded)) MOST_OBJECTS search loaded.objs o) (sym (same_id id e) ∙ at),
   )
 
@@ -187,7 +158,7 @@ module _ (faces : List Face) (s new : Loading) (loaded : Loaded) (st : Stands fa
       let one : added.face ≡ o.face = same_some added.face o.face (sym added.stands ∙ face) in (
         Brought o,
         sym st.objects.count,
-        stands_brought faces s new loaded st r x o safe.program safe.known path id face by added.objs (added.known ∙ ap (λ (f : Face). s.known ++ (soname_names f.soname ++ r.name ∷ []) ∷ []) one),
+        stands_brought faces s new loaded st r x o safe.program path id face by added.objs (subst (λ (f : Face). IsLearnt (λ n. is_named f.soname n || bytes_eq r.name n) (length s.objs) s.known new.known) one added.known),
         λ search. ap (by_id (TooManyObjects (start_path loaded)) MOST_OBJECTS search loaded.objs o) (sym (same_id x.id id) ∙ none)
             ∙ ap (λ b. cond b (Ok (Brought o)) (Err (TooManyObjects (start_path loaded)))) (lt-ltb (length loaded.objs) MOST_OBJECTS (let c = st.objects.count in omega (arith, room, c))),
       )

@@ -5,3 +5,5 @@ pub mod AskingGrown
 pub mod AskingPlaces
 pub mod AskingProgram
 pub mod AskingSteps
+pub mod FirstLemmas
+pub mod KnownLemmas

@@ -1,14 +1,14 @@
 -- What the steps of a request answer.
-use Rattle.std.specs.Prelude.{ℕ, List, [], ◌∷◌, ◌++◌, ◌≡◌, Some, None, Result, Ok, Err, slice_get}
+use Rattle.std.specs.Prelude.{ℕ, List, [], ◌∷◌, ◌++◌, ◌||◌, ◌≡◌, Some, None, Result, Ok, Err, length, slice_get}
 use Rattle.std.specs.Str.{bytes_eq}
 use Rattle.load_model.specs.Candidates.{refused_text}
-use Rattle.load_model.specs.LoadList.{Found, Loaded, Object, Request, Search, by_id, first_place, with_found}
+use Rattle.load_model.specs.LoadList.{Found, Loaded, Object, Request, Search, by_id, first_place, is_named, with_found}
 use Rattle.load_model.specs.declared.faces.Face.{Face}
 use Rattle.load_model.specs.declared.limits.TheConstants.{MOST_OBJECTS}
 use Rattle.load_model.specs.declared.refusals.LoadRefusal.{LoadRefusal}
 use Rattle.load_model.specs.declared.refusals.LoadRefusal.TheVariants.{TooManyObjects}
 use Rattle.load_model.specs.declared.runs.Obj.{Obj}
-use Rattle.load_requests.specs.Known.{soname_names}
+use Rattle.load_requests.specs.Known.{IsLearnt}
 use Rattle.load_requests.specs.Loading.{IsRead, IsRefusedBy, refusal_of}
 use Rattle.load_requests.specs.Standing.{Stands, number_of, start_path}
 use Rattle.load_requests.specs.declared.loading.Loading.{Loading}
@@ -38,12 +38,22 @@ IsTaken faces new loaded r o (Err stop) =
     (refusal_of stop)
     × (IsRead stop → ⊥)
 
--- One object more, known by a name and by its soname.
+-- One object more, known by its soname, with its identity.
+pub record IsPushed (face : Face) (x : Obj) (before after : Loading) : Type 0 where
+  pub objs : after.objs ≡ before.objs ++ x ∷ []
+  pub known : IsLearnt (is_named face.soname) (length before.objs) before.known after.known
+  pub ids : IsLearnt (bytes_eq x.id) (length before.objs) before.ids after.ids
+  pub targets : after.targets ≡ before.targets
+  pub phase : after.phase ≡ before.phase
+
+-- One object more, known by a name and by its soname, with its identity.
 pub record IsAdded (faces : List Face) (name : List ℕ) (x : Obj) (before after : Loading) : Type 0
   where
     pub face : Face
     pub stands : slice_get faces x.face ≡ Some face
     pub objs : after.objs ≡ before.objs ++ x ∷ []
-    pub known : after.known ≡ before.known ++ (soname_names face.soname ++ name ∷ []) ∷ []
+    pub known : IsLearnt (λ n. is_named face.soname n || bytes_eq name n) (length before.objs)
+        before.known after.known
+    pub ids : IsLearnt (bytes_eq x.id) (length before.objs) before.ids after.ids
     pub targets : after.targets ≡ before.targets
     pub phase : after.phase ≡ before.phase

@@ -1,43 +1,41 @@
 -- What a load in progress stands for, and what its steps answer.
-use Rattle.std.specs.Prelude.{ℕ, suc, ◌+◌, List, [], ◌∷◌, ◌++◌, true, ◌==◌, ◌≡◌, ◌<◌, ◌≤◌, Option, Some, None, Result, Ok, Err, All, drop, length, map, slice_get, take}
+use Rattle.std.specs.Prelude.{ℕ, suc, ◌+◌, List, [], ◌∷◌, ◌++◌, true, ◌==◌, ◌≡◌, ◌<◌, ◌≤◌, Some, Result, Ok, Err, All, drop, length, slice_get, take}
 use Rattle.std.specs.List.{list_any}
 use Rattle.answers.specs.Faults.{Rose}
 use Rattle.answers.specs.Told.{WhereTold}
 use Rattle.load_model.specs.Candidates.{path_by}
 use Rattle.load_model.specs.Faces.{face_or_flaw}
-use Rattle.load_model.specs.LoadList.{Asked, Brought, Found, Known, Loaded, Object, Request, is_known, walk, with_found}
+use Rattle.load_model.specs.LoadList.{Asked, Brought, Found, Known, Loaded, Object, Request, first_place, is_known, walk, with_found}
 use Rattle.load_model.specs.Loads.{goes_to, program_at}
 use Rattle.load_model.specs.Opening.{OpenerView}
 use Rattle.load_model.specs.Runs.{AreBelow, AreObjects, loader_of}
-use Rattle.load_model.specs.World.{World}
 use Rattle.load_model.specs.declared.faces.Face.{Face}
 use Rattle.load_model.specs.declared.limits.TheConstants.{MOST_OBJECTS}
-use Rattle.load_model.specs.declared.refusals.LoadRefusal.{LoadRefusal}
 use Rattle.load_model.specs.declared.runs.Obj.{Obj}
 use Rattle.load_model.specs.declared.setting.Setting.{Setting}
-use Rattle.load_requests.specs.Known.{has_name}
+use Rattle.load_requests.specs.Known.{AreIds, first_known}
 use Rattle.load_requests.specs.Loading.{IsRead, IsRefusedBy, refusal_of}
 use Rattle.load_requests.specs.declared.loading.Loading.{Loading}
 use Rattle.load_requests.specs.declared.stops.LoadStop.{LoadStop}
 
 -- These objects, and these requests with their targets, are what is loaded: the objects with what a
--- loader sees of each, each known by its names, each with its loader; each but the program is the
--- target of a request.
+-- loader sees of each, each name with the first object that is known by it, each object with its
+-- loader; each but the program is the target of a request.
 pub record Stands (faces : List Face) (s : Loading) (loaded : Loaded) : Type 0 where
   pub objects : AreObjects faces s.objs loaded.objs
-  pub names : (j : ℕ) (known : List (List ℕ)) (o : Object) (n : List ℕ)
-      → slice_get s.known j ≡ Some known → slice_get loaded.objs j ≡ Some o
-      → has_name n known ≡ is_known loaded.log n j o
+  pub names : (n : List ℕ)
+      → first_known n s.known ≡ first_place (is_known loaded.log n) 0 loaded.objs
   pub loaders : (j : ℕ) (x : Obj) → slice_get s.objs j ≡ Some x → x.loader ≡ loader_of loaded.log j
   pub within : All (λ a. a.target < length loaded.objs) loaded.log
   pub brought : (j : ℕ) → 0 < j → j < length loaded.objs
       → list_any (λ a. a.target == j) loaded.log ≡ true
 
--- All numbers are in range, whatever was read.
+-- All numbers are in range, and each identity leads to its object, whatever was read.
 pub record IsSafe (faces : List Face) (s : Loading) : Type 0 where
   pub program : 0 < length s.objs
   pub few : length s.objs ≤ MOST_OBJECTS
-  pub known : length s.known ≡ length s.objs
+  pub known : (n : List ℕ) (j : ℕ) → first_known n s.known ≡ Some j → j < length s.objs
+  pub ids : AreIds s.ids s.objs
   pub faces_within : All (λ x. x.face < length faces) s.objs
   pub own : (x : Obj) → slice_get s.objs 0 ≡ Some x → x.loader ≡ 0
   pub smaller : (j : ℕ) (x : Obj) → 0 < j → slice_get s.objs j ≡ Some x → x.loader < j

@@ -1,88 +1,83 @@
-//! The names by which each object is known: those of the requests that went to it, and its soname.
+//! The names by which objects are known, each with the first object that is known by it.
+//!
+//! A name is found by its hash, and not by a walk over the objects. What is learnt of a name is
+//! said in `specs/Known.antt`.
 
-ghost use Rattle.std.specs.Prelude.{◌≡◌, ◌<◌, ◌^◌, ◌∷◌, [], ◌++◌, IfOk, OnErr, OnOk, length, position, slice_index_or, slice_set};
-ghost use Rattle.std.specs.List.{list_any};
-ghost use Rattle.std.specs.Option.{option_map};
-ghost use Rattle.std.specs.Str.{bytes_eq};
-ghost use Rattle.load_requests.specs.Known.{has_name, soname_names};
+ghost use Rattle.std.specs.Prelude.{◌≡◌, [], OnOk, bytes_eq};
+ghost use Rattle.load_model.specs.LoadList.{is_named};
+ghost use Rattle.load_requests.specs.Known.{IsLearnt, IsMadeFirst, first_known};
 
-use load_model::{Face, List, Name};
+use indexmap::IndexMap;
+use load_model::{Face, Name};
 use path_text::NoMemory;
 use std::alloc::Global;
 use std::marker::Model;
 
-/// The names of each object.
+/// For each name the number of the first object that is known by it.
 #[derive(Drop)]
 pub struct Known {
-    names: Vec<List<Name>>,
+    firsts: IndexMap<Vec<u8>, usize>,
 }
 
 impl Model for Known {
-    ghost use Rattle.std.specs.Prelude.{List, ℕ};
+    ghost use Rattle.std.specs.Prelude.{List, ℕ, map, vec_items};
 
-    ghost Value = { List (List (List ℕ)) };
+    ghost Value = { List (List ℕ × ℕ) };
 
-    ghost view = { λ known. known.names.items };
+    ghost view = { λ known. map (λ e. (vec_items e.0, e.1)) known.firsts.entries };
 }
 
 impl Known {
-    /// No object.
+    /// No name.
     pub fn new(alloc: Global) -> Self
         ensures { result ≡ [] }
     {
         Known {
-            names: Vec::new(alloc),
+            firsts: IndexMap::new(alloc),
         }
     }
 
     /// The first object that is known by the name.
     pub fn first(&self, name: &Name) -> Option<usize>
-        ensures { result ≡ position (has_name name.now) self.now }
+        ensures { result ≡ first_known name.now self.now }
     {
-        self.names
-            .as_slice()
-            .iter()
-            .position(|names| has_name(names.as_slice(), name))
+        self.firsts.get(name.as_bytes()).copied()
     }
 
-    /// Adds a name by which an object is known.
-    pub fn learn(&mut self, alloc: Global, number: usize, name: &Name) -> Result<(), NoMemory>
-        requires { number < length self.old }
-        ensures { OnOk result
-            (self.new ≡ slice_set self.old number (slice_index_or self.old number []
-            ++ name.now ∷ [])) }
+    /// Adds a name by which an object is known. An object before it that is known by the name
+    /// stays the first.
+    pub fn learn(&mut self, alloc: Global, name: &Name, number: usize) -> Result<(), NoMemory>
+        ensures { OnOk result (IsLearnt (bytes_eq name.now) number self.old self.new) }
     {
-        let copy = name.copy(alloc)?;
-        self.names[number].push(copy)
-    }
-
-    /// Adds an object with its names.
-    pub fn push(&mut self, names: List<Name>) -> Result<(), NoMemory>
-        ensures { OnOk result (self.new ≡ self.old ++ names ∷ []) }
-    {
-        match self.names.push(names) {
-            Ok(()) => Ok(()),
-            Err(_) => Err(NoMemory),
+        match self.first(name) {
+            Some(first) if first <= number => Ok(()),
+            _ => self.put(alloc, name, number),
         }
     }
-}
 
-/// Whether a name is one of these.
-fn has_name(names: &[Name], name: &Name) -> bool
-    ensures { result ≡ has_name name.now names.now }
-{
-    names
-        .iter()
-        .any(|known| known.as_bytes() == name.as_bytes())
-}
-
-/// The soname of a file, if it has one.
-pub fn soname_of(alloc: Global, face: &Face) -> Result<List<Name>, NoMemory>
-    ensures { IfOk result (λ names. names ≡ soname_names face.now.soname) }
-{
-    let mut names = List::new(alloc);
-    if let Some(soname) = &face.soname {
-        names.push(soname.copy(alloc)?)?;
+    /// Adds the soname of an object, if it has one.
+    pub fn learn_soname(
+        &mut self,
+        alloc: Global,
+        face: &Face,
+        number: usize,
+    ) -> Result<(), NoMemory>
+        ensures { OnOk result (IsLearnt (is_named face.now.soname) number self.old self.new) }
+    {
+        match &face.soname {
+            Some(soname) => self.learn(alloc, soname, number),
+            None => Ok(()),
+        }
     }
-    Ok(names)
+
+    /// Makes an object the first that is known by the name.
+    fn put(&mut self, alloc: Global, name: &Name, number: usize) -> Result<(), NoMemory>
+        ensures { OnOk result (IsMadeFirst name.now number self.old self.new) }
+    {
+        let name = Vec::from_slice(alloc, name.as_bytes())?;
+        let Ok(_) = self.firsts.insert(name, number) else {
+            return Err(NoMemory);
+        };
+        Ok(())
+    }
 }

@@ -5,10 +5,9 @@ ghost use Rattle.load_model.specs.Opening.{OnlyGrew};
 ghost use Rattle.load_model.specs.declared.setting.Setting.{Setting};
 ghost use Rattle.load_requests.specs.Standing.{IsAlone, IsSafe, IsStarted};
 
-use crate::known::{Known, soname_of};
 use crate::loading::Loading;
 use crate::stops::LoadStop;
-use load_model::{List, Obj, Opened, Opener};
+use load_model::{Obj, Opened, Opener};
 use path_text::Abs;
 use search_paths::SearchStop;
 use std::alloc::Global;
@@ -24,22 +23,16 @@ pub fn start<P: Opener>(alloc: Global, opener: &mut P, start: &Abs) -> Result<Lo
     let path = start.copy(alloc)?;
     match opener.open(alloc, start) {
         Ok(Opened::Object { id, face }) => {
-            let mut objs = List::new(alloc);
-            let mut known = Known::new(alloc);
-            known.push(soname_of(alloc, &opener.faces()[face as usize])?)?;
-            objs.push(Obj {
+            let mut loading = Loading::new(alloc);
+            let program = Obj {
                 path,
                 id,
                 face,
                 loader: 0,
                 phase: 0,
-            })?;
-            Ok(Loading {
-                objs,
-                known,
-                targets: List::new(alloc),
-                phase: 0,
-            })
+            };
+            loading.push(alloc, &opener.faces()[face as usize], program)?;
+            Ok(loading)
         }
         Ok(Opened::Absent) => Err(LoadStop::NoProgram(path)),
         Ok(Opened::Other) => Err(LoadStop::NoProgram(path)),

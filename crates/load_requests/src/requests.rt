@@ -14,7 +14,6 @@ ghost use Rattle.load_requests.specs.Asking.{IsAdded, IsTaken, IsTextAnswer};
 ghost use Rattle.load_requests.specs.Standing.{IsAskedFor, IsAsking, IsSafe, Stands};
 ghost use Rattle.load_requests.specs.declared.stops.LoadStop.TheVariants.{MissingLibrary as Misses};
 
-use crate::known::soname_of;
 use crate::loading::Loading;
 use crate::stops::LoadStop;
 use load_model::limits::MOST_OBJECTS;
@@ -93,7 +92,7 @@ fn take(
         (record { path = object.path; id = object.id; face = face }) result }
 {
     if let Some(number) = loading.with_id(&object.id) {
-        loading.known.learn(alloc, number, name)?;
+        loading.known.learn(alloc, name, number)?;
         return Ok(number as u32);
     }
     let number = loading.count();
@@ -115,10 +114,9 @@ fn add(
     requires place { object.face < length faces.now }
     ensures { OnOk result (IsAdded faces.now name.now object loading.old loading.new) }
 {
-    let mut names = soname_of(alloc, &faces[object.face as usize])?;
-    names.push(name.copy(alloc)?)?;
-    loading.objs.push(object)?;
-    loading.known.push(names)
+    let number = loading.count();
+    loading.push(alloc, &faces[object.face as usize], object)?;
+    loading.known.learn(alloc, name, number)
 }
 
 /// Refuses a name that holds `$`, or a slash where it does not begin with one.

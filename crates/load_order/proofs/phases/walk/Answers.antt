@@ -17,7 +17,7 @@ walk-preserved g c =
     walks_more c.args.setting.now (g.P.Opener.seen c.args.opener.now) (g.P.Opener.seen c.walk.opener) (g.P.Opener.seen c.ask_all.new.opener) c.args.loading.now c.walk.loading c.ask_all.new.loading _ c.as_slice-in-walk.result.now c.requires.safe.program c.walk.invariant
     (are_needs _ _ _ c.in-Ok.needs c.as_slice-in-walk.result.now (cc) c.in-Ok.ensures.needs)
     c.in-Ok-ask_all.targets c.in-Ok-ask_all.ensures.safe c.in-Ok-ask_all.ensures.asking c.in-Ok-ask_all.ensures.count c.in-Ok-ask_all.ensures.below c.in-Ok-ask_all.ensures.answer c.in-Ok-ask_all.ensures.grew
-    (record { objs = refl; known = refl; phase = refl; targets = if_done c.push.result _ c.push.ensures.ok (sym c.is_err.ensures.value ∙ c.if-is_err.false) })
+    (record { objs = refl; known = refl; ids = refl; phase = refl; targets = if_done c.push.result _ c.push.ensures.ok (sym c.is_err.ensures.value ∙ c.if-is_err.false) })
 
 pub returns-clause-answer : goal.returns-clause-answer
 returns-clause-answer g c =
