@@ -3,7 +3,7 @@
 //! A name is found by its hash, and not by a walk over the objects. What is learnt of a name is
 //! said in `specs/Known.antt`.
 
-ghost use Rattle.std.specs.Prelude.{◌≡◌, [], OnOk, bytes_eq};
+ghost use Rattle.std.specs.Prelude.{◌≡◌, [], OnErr, OnOk, bytes_eq};
 ghost use Rattle.load_model.specs.LoadList.{is_named};
 ghost use Rattle.load_requests.specs.Known.{IsLearnt, IsMadeFirst, first_known};
 
@@ -45,9 +45,10 @@ impl Known {
     }
 
     /// Adds a name by which an object is known. An object before it that is known by the name
-    /// stays the first.
+    /// stays the first. Where memory is refused, all names stay as they were.
     pub fn learn(&mut self, alloc: Global, name: &Name, number: usize) -> Result<(), NoMemory>
-        ensures { OnOk result (IsLearnt (bytes_eq name.now) number self.old self.new) }
+        ensures learnt { OnOk result (IsLearnt (bytes_eq name.now) number self.old self.new) }
+        ensures err { OnErr result (self.new ≡ self.old) }
     {
         match self.first(name) {
             Some(first) if first <= number => Ok(()),
@@ -62,7 +63,9 @@ impl Known {
         face: &Face,
         number: usize,
     ) -> Result<(), NoMemory>
-        ensures { OnOk result (IsLearnt (is_named face.now.soname) number self.old self.new) }
+        ensures learnt { OnOk result (IsLearnt (is_named face.now.soname) number self.old
+            self.new) }
+        ensures err { OnErr result (self.new ≡ self.old) }
     {
         match &face.soname {
             Some(soname) => self.learn(alloc, soname, number),
@@ -72,7 +75,8 @@ impl Known {
 
     /// Makes an object the first that is known by the name.
     fn put(&mut self, alloc: Global, name: &Name, number: usize) -> Result<(), NoMemory>
-        ensures { OnOk result (IsMadeFirst name.now number self.old self.new) }
+        ensures first { OnOk result (IsMadeFirst name.now number self.old self.new) }
+        ensures err { OnErr result (self.new ≡ self.old) }
     {
         let name = Vec::from_slice(alloc, name.as_bytes())?;
         let Ok(_) = self.firsts.insert(name, number) else {

@@ -65,7 +65,7 @@ impl Loading {
         self.ids.first(id)
     }
 
-    /// Adds an object, which is known by its soname.
+    /// Adds an object, which is known by its soname, and its identity.
     pub(crate) fn push(&mut self, alloc: Global, face: &Face, object: Obj) -> Result<(), NoMemory>
         ensures { OnOk result (IsPushed face.now object self.old self.new) }
     {

@@ -15,4 +15,4 @@ returns c = on_ok c.learn.result (λ h. record {
   ids = c.in_ok-push.ensures.ids;
   targets = c.in_ok-push.ensures.targets;
   phase = c.in_ok-push.ensures.phase;
-}) c.learn.ensures
+}) c.learn.ensures.learnt

@@ -8,7 +8,7 @@ use Rattle.load_requests.proofs.requests.take.Goals as goal
 pub returns-in-Some-clause-taken : goal.returns-in-Some-clause-taken
 returns-in-Some-clause-taken c = λ loaded face st at.
     taken_known c.args.faces.now c.args.loading.now (record { objs = c.args.loading.now.objs; known = c.learn.new.self; ids = c.args.loading.now.ids; targets = c.args.loading.now.targets; phase = c.args.loading.now.phase }) loaded st (record { by = c.args.object.loader; name = c.args.name.now }) (record { path = c.args.object.path; id = c.args.object.id; face = face })
-    c.args.object.id c.in-Some.number refl (sym c.in-Some.ensures) (position-Some (λ x. bytes_eq x.id c.args.object.id) c.args.loading.now.objs c.in-Some.number c.args.object (sym c.in-Some.ensures)).0 refl c.in_ok-learn.ensures
+    c.args.object.id c.in-Some.number refl (sym c.in-Some.ensures) (position-Some (λ x. bytes_eq x.id c.args.object.id) c.args.loading.now.objs c.in-Some.number c.args.object (sym c.in-Some.ensures)).0 refl c.in_ok-learn.ensures.learnt
 
 pub returns-then-number-ge-MOST_OBJECTS-clause-taken : goal.returns-then-number-ge-MOST_OBJECTS-clause-taken
 returns-then-number-ge-MOST_OBJECTS-clause-taken c = λ loaded face st at.
@@ -33,5 +33,5 @@ returns-clause-asking c = asking_added c.args.faces.now c.args.name.now c.args.o
 pub returns-in-Some-clause-safe : goal.returns-in-Some-clause-safe
 returns-in-Some-clause-safe c =
     safe_same c.args.faces.now c.args.loading.now (record { objs = c.args.loading.now.objs; known = c.learn.new.self; ids = c.args.loading.now.ids; targets = c.args.loading.now.targets; phase = c.args.loading.now.phase }) c.requires.safe refl
-    (learnt_within (bytes_eq c.args.name.now) c.in-Some.number (length c.args.loading.now.objs) c.args.loading.now.known c.learn.new.self c.in_ok-learn.ensures (position-Some (λ x. bytes_eq x.id c.args.object.id) c.args.loading.now.objs c.in-Some.number c.args.object (sym c.in-Some.ensures)).0 c.requires.safe.known)
+    (learnt_within (bytes_eq c.args.name.now) c.in-Some.number (length c.args.loading.now.objs) c.args.loading.now.known c.learn.new.self c.in_ok-learn.ensures.learnt (position-Some (λ x. bytes_eq x.id c.args.object.id) c.args.loading.now.objs c.in-Some.number c.args.object (sym c.in-Some.ensures)).0 c.requires.safe.known)
     refl refl refl
