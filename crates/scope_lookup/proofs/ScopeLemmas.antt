@@ -1,7 +1,7 @@
 -- The first offer of a scope, where each object counts at its first place.
 use Rattle.std.proofs.Common.{◌≡◌, ◌∙◌, sym, ap, refl, subst, ℕ, zero, suc, ◌+◌, ◌<◌, ◌≤◌, ◌^◌, List, [], ◌∷◌, ◌++◌, Bool, true, false, cond, not, ◌==◌, ◌&&◌, nat_eq, Option, Some, None, is_some, IfSome, All, filter, map, slice_get, get_or, take, drop, length, arith, inl, inr, append_assoc, drop-cons}
 use Rattle.std.specs.List.{list_any}
-use Rattle.std.specs.Option.{option_and_then, option_eq, option_map, option_or, option_to_list}
+use Rattle.std.specs.Option.{option_and_then, option_copied, option_eq, option_map, option_or, option_to_list}
 use Rattle.std.proofs.Math.Seq.{take-suc}
 use Rattle.std.proofs.lemmas.Bool.{and_from, cases_lt, eq-eqb, eqb-true, not-false, or_cases}
 use Rattle.std.proofs.lemmas.List.{append-nil, length-map, map-append, take-append-drop, take_all}
@@ -19,6 +19,7 @@ use Rattle.load_model.specs.declared.runs.Obj.{Obj}
 use Rattle.load_model.specs.declared.runs.Run.{Run}
 use Rattle.load_model.specs.declared.symbols.Class.{Class}
 use Rattle.load_model.specs.declared.symbols.Sym.{Sym}
+use Rattle.scope_lookup.specs.declared.wanting.Wanted.{Wanted}
 use Rattle.scope_lookup.specs.Finding.{IsSearchable, first_found_in, found_in_object, offer_in, offered_at}
 
 some-append : {A : Type 0} (xs ys : List (Option A)) → first_some (xs ++ ys) ≡ option_or (first_some xs) (first_some ys)
@@ -115,34 +116,38 @@ filtered a f (k ∷ ks) =
 abbrev pub def_at : ℕ → ℕ → Def
 def_at k i = record { obj = k; sym = i }
 
-same_face : (class : Class) (s : Sym) (k : ℕ) (o : Option Face) → option_map (def_at k) (option_and_then (λ face. offer_of (offered_by face) s.name (wanted_version s.version) class) o) ≡ option_map (def_at k) (option_and_then (λ x. offer_of x s.name (wanted_version s.version) class) (option_map offered_by o))
-same_face class s k None = refl
-same_face class s k (Some face) = refl
+same_face : (class : Class) (name : List ℕ) (version : Option (List ℕ)) (k : ℕ) (o : Option Face) → option_map (def_at k) (option_and_then (λ face. offer_of (offered_by face) name version class) o) ≡ option_map (def_at k) (option_and_then (λ x. offer_of x name version class) (option_map offered_by o))
+same_face class name version k None = refl
+same_face class name version k (Some face) = refl
 
-same_by : (faces : List Face) (class : Class) (s : Sym) (k : ℕ) (o : Option Obj) → option_map (def_at k) (option_and_then (λ face. offer_of (offered_by face) s.name (wanted_version s.version) class) (option_and_then (λ (x : Obj). slice_get faces x.face) o)) ≡ option_map (def_at k) (option_and_then (λ x. offer_of x s.name (wanted_version s.version) class) (option_and_then (λ (x : Obj). slice_get (map offered_by faces) x.face) o))
-same_by faces class s k None = refl
-same_by faces class s k (Some x) =
-    same_face class s k (slice_get faces x.face)
-    ∙ ap (λ o. option_map (def_at k) (option_and_then (λ (f : Offered). offer_of f s.name (wanted_version s.version) class) o)) (sym (slice_get-map offered_by faces x.face))
+same_by : (faces : List Face) (class : Class) (name : List ℕ) (version : Option (List ℕ)) (k : ℕ) (o : Option Obj) → option_map (def_at k) (option_and_then (λ face. offer_of (offered_by face) name version class) (option_and_then (λ (x : Obj). slice_get faces x.face) o)) ≡ option_map (def_at k) (option_and_then (λ x. offer_of x name version class) (option_and_then (λ (x : Obj). slice_get (map offered_by faces) x.face) o))
+same_by faces class name version k None = refl
+same_by faces class name version k (Some x) =
+    same_face class name version k (slice_get faces x.face)
+    ∙ ap (λ o. option_map (def_at k) (option_and_then (λ (f : Offered). offer_of f name version class) o)) (sym (slice_get-map offered_by faces x.face))
 
 map_same : {A : Type 0} (f g : ℕ → Option A) → ((k : ℕ) → f k ≡ g k) → (ks : List ℕ) → first_some (map f ks) ≡ first_some (map g ks)
 map_same f g h [] = refl
 map_same f g h (k ∷ ks) = first_of-cons f k ks ∙ ap (λ o. option_or o (first_some (map f ks))) (h k) ∙ ap (option_or (g k)) (map_same f g h ks) ∙ sym (first_of-cons g k ks)
 
 -- the first offer of the scope, by the index
-pub bound_found : (faces : List Face) (run : Run) (j i : ℕ) (class : Class) (s : Sym) → symbol_at faces run j i ≡ Some s → binds_itself class s ≡ false → bound_to faces run j i class ≡ first_found_in (map offered_by faces) run class s (itself faces run j ++ (up_to run.global ++ local_of run (slice_get run.objs j)))
+pub bound_found : (faces : List Face) (run : Run) (j i : ℕ) (class : Class) (s : Sym) (w : Wanted) → symbol_at faces run j i ≡ Some s → binds_itself class s ≡ false → w.name.now ≡ s.name → option_copied w.version ≡ wanted_version s.version → w.class ≡ class → bound_to faces run j i class ≡ first_found_in (map offered_by faces) run w (itself faces run j ++ (up_to run.global ++ local_of run (slice_get run.objs j)))
 unfolding bound_to first_offer scope_of first_found_in found_in_object
-bound_found faces run j i class s h own =
+bound_found faces run j i class s w h own name_is version_is class_is =
     let version = wanted_version s.version in
     let all : List ℕ = itself faces run j ++ (up_to run.global ++ local_of run (slice_get run.objs j)) in
     let f : ℕ → Option Def = offer_at faces run s.name version class in
-    let g : ℕ → Option Def = offer_in (map offered_by faces) run class s in
+    let g : Class → List ℕ → Option (List ℕ) → ℕ → Option Def =
+    λ c n v k. cond ((k == 0) && is_copy c) None (option_map (def_at k) (option_and_then (λ (o : Offered). offer_of o n v c) (offered_at (map offered_by faces) run k))) in
     let kept : (ℕ → Option Def) → ℕ → Option Def = λ e k. cond ((k == 0) && is_copy class) None (e k) in
     ap (bound_by faces run j i class) h
     ∙ ap (λ b. cond b (Some (record { obj = j; sym = i })) (first_offer faces run (looked_in class (scope_of faces run j)) s.name version class)) own
     ∙ filtered (is_copy class) f (with_numbers [] all)
     ∙ once_each (kept f) [] all
-    ∙ map_same (kept f) (kept g) (λ k. ap (λ o. cond ((k == 0) && is_copy class) None o) (same_by faces class s k (slice_get run.objs k))) all
+    ∙ map_same (kept f) (g class s.name version) (λ k. ap (λ o. cond ((k == 0) && is_copy class) None o) (same_by faces class s.name version k (slice_get run.objs k))) all
+    ∙ ap (λ n. first_some (map (g class n version) all)) (sym name_is)
+    ∙ ap (λ v. first_some (map (g class w.name.now v) all)) (sym version_is)
+    ∙ ap (λ c. first_some (map (g c w.name.now (option_copied w.version)) all)) (sym class_is)
 
 pub bound_itself : (faces : List Face) (run : Run) (j i : ℕ) (class : Class) (s : Sym) → symbol_at faces run j i ≡ Some s → binds_itself class s ≡ true → Some (record { obj = j; sym = i }) ≡ bound_to faces run j i class
 unfolding bound_to
@@ -210,81 +215,81 @@ module _ {X : Type 0} (f : X → Offered) (xs : List X) (run : Run) (objs : List
       ap (option_and_then (λ (y : Obj). slice_get (map f xs) y.face)) (slice_get_read run.objs (length run.objs) k o refl within (is ∙ ap (λ ys. get_or ys k o) same))
       ∙ slice_get-map f xs o.face ∙ ap (option_map f) (slice_get_read xs (length xs) o.face x refl place_below x_at)
 
-module _ (index : List Offered) (run : Run) (class : Class) (s : Sym) where
-  pub copy_skips : (k : ℕ) → k ≡ 0 → is_copy class ≡ true → None ≡ found_in_object index run class s k
+module _ (index : List Offered) (run : Run) (w : Wanted) where
+  pub copy_skips : (k : ℕ) → k ≡ 0 → is_copy w.class ≡ true → None ≡ found_in_object index run w k
   unfolding found_in_object
-  copy_skips k e h = sym (ap (λ b. cond b None (offer_in index run class s k)) (and_from (k == 0) (is_copy class) (eq-eqb k 0 e) h))
+  copy_skips k e h = sym (ap (λ b. cond b None (offer_in index run w k)) (and_from (k == 0) (is_copy w.class) (eq-eqb k 0 e) h))
 
-  pub offer_found : (k : ℕ) (o : Offered) (r : Option ℕ) (name : List ℕ) (version : Option (List ℕ)) → ((k == 0) && is_copy class) ≡ false → offered_at index run k ≡ Some o → r ≡ offer_of o name version class → name ≡ s.name → version ≡ wanted_version s.version → option_map (def_at k) r ≡ found_in_object index run class s k
+  pub offer_found : (k : ℕ) (o : Offered) (r : Option ℕ) → ((k == 0) && is_copy w.class) ≡ false → offered_at index run k ≡ Some o → r ≡ offer_of o w.name.now (option_copied w.version) w.class → option_map (def_at k) r ≡ found_in_object index run w k
   unfolding found_in_object
-  offer_found k o r name version skip at is same_name same_version =
-      ap (option_map (def_at k)) (is ∙ ap (λ n. offer_of o n version class) same_name ∙ ap (λ v. offer_of o s.name v class) same_version)
-      ∙ sym (ap (λ b. cond b None (offer_in index run class s k)) skip
-      ∙ ap (λ p. option_map (def_at k) (option_and_then (λ (y : Offered). offer_of y s.name (wanted_version s.version) class) p)) at)
+  offer_found k o r skip at is =
+      ap (option_map (def_at k)) is
+      ∙ sym (ap (λ b. cond b None (offer_in index run w k)) skip
+      ∙ ap (λ p. option_map (def_at k) (option_and_then (λ (y : Offered). offer_of y w.name.now (option_copied w.version) w.class) p)) at)
 
-  pub nothing_yet : first_found_in index run class s (up_to 0) ≡ None
+  pub nothing_yet : first_found_in index run w (up_to 0) ≡ None
   unfolding first_found_in up_to
   nothing_yet = refl
 
-  pub nothing_more : (n : ℕ) → first_found_in index run class s (up_to n) ≡ None → found_in_object index run class s n ≡ None → first_found_in index run class s (up_to (n + 1)) ≡ None
+  pub nothing_more : (n : ℕ) → first_found_in index run w (up_to n) ≡ None → found_in_object index run w n ≡ None → first_found_in index run w (up_to (n + 1)) ≡ None
   unfolding first_found_in
-  nothing_more n h e = none_more (found_in_object index run class s) n h e
+  nothing_more n h e = none_more (found_in_object index run w) n h e
 
-  pub found_there : (n m : ℕ) (d : Def) → n < m → first_found_in index run class s (up_to n) ≡ None → found_in_object index run class s n ≡ Some d → Some d ≡ first_found_in index run class s (up_to m)
+  pub found_there : (n m : ℕ) (d : Def) → n < m → first_found_in index run w (up_to n) ≡ None → found_in_object index run w n ≡ Some d → Some d ≡ first_found_in index run w (up_to m)
   unfolding first_found_in
-  found_there n m d less h e = sym (some_there (found_in_object index run class s) n m d less h e)
+  found_there n m d less h e = sym (some_there (found_in_object index run w) n m d less h e)
 
-  pub itself_again : (itself : Option ℕ) (n : ℕ) → not (option_eq nat_eq (Some n) itself) ≡ false → IfSome itself (λ k. found_in_object index run class s k ≡ None) → found_in_object index run class s n ≡ None
+  pub itself_again : (itself : Option ℕ) (n : ℕ) → not (option_eq nat_eq (Some n) itself) ≡ false → IfSome itself (λ k. found_in_object index run w k ≡ None) → found_in_object index run w n ≡ None
   itself_again None n h looked = cc
-  itself_again (Some k) n h looked = ap (found_in_object index run class s) (eqb-true n k (not-false (nat_eq n k) h)) ∙ looked
+  itself_again (Some k) n h looked = ap (found_in_object index run w) (eqb-true n k (not-false (nat_eq n k) h)) ∙ looked
 
-  pub global_again : (n k : ℕ) → first_found_in index run class s (up_to n) ≡ None → k < n → found_in_object index run class s k ≡ None
+  pub global_again : (n k : ℕ) → first_found_in index run w (up_to n) ≡ None → k < n → found_in_object index run w k ≡ None
   unfolding first_found_in
-  global_again n k h less = none_below (found_in_object index run class s) n k h less
+  global_again n k h less = none_below (found_in_object index run w) n k h less
 
-  pub list_yet : (ks : List ℕ) → first_found_in index run class s (take 0 ks) ≡ None
+  pub list_yet : (ks : List ℕ) → first_found_in index run w (take 0 ks) ≡ None
   unfolding first_found_in
   list_yet ks = refl
 
-  pub list_more : (ks : List ℕ) (i : ℕ) → i < length ks → first_found_in index run class s (take i ks) ≡ None → found_in_object index run class s (get_or ks i 0) ≡ None → first_found_in index run class s (take (i + 1) ks) ≡ None
+  pub list_more : (ks : List ℕ) (i : ℕ) → i < length ks → first_found_in index run w (take i ks) ≡ None → found_in_object index run w (get_or ks i 0) ≡ None → first_found_in index run w (take (i + 1) ks) ≡ None
   unfolding first_found_in
   list_more ks i less h e =
-      let g : ℕ → Option Def = found_in_object index run class s in
+      let g : ℕ → Option Def = found_in_object index run w in
       let up : i + 1 ≡ suc i = omega arith in
       ap (λ xs. first_some (map g xs)) (ap (λ m. take m ks) up ∙ take-suc ks i 0 less)
       ∙ first_of-append g (take i ks) (get_or ks i 0 ∷ []) ∙ ap (λ o. option_or o (first_some (map g (get_or ks i 0 ∷ [])))) h
       ∙ one_of (g (get_or ks i 0)) ∙ e
 
-  pub list_there : (ks : List ℕ) (i : ℕ) (d : Def) → i < length ks → first_found_in index run class s (take i ks) ≡ None → found_in_object index run class s (get_or ks i 0) ≡ Some d → Some d ≡ first_found_in index run class s ks
+  pub list_there : (ks : List ℕ) (i : ℕ) (d : Def) → i < length ks → first_found_in index run w (take i ks) ≡ None → found_in_object index run w (get_or ks i 0) ≡ Some d → Some d ≡ first_found_in index run w ks
   unfolding first_found_in
   list_there ks i d less h e =
-      let g : ℕ → Option Def = found_in_object index run class s in
+      let g : ℕ → Option Def = found_in_object index run w in
       sym (ap (λ xs. first_some (map g xs)) (sym (take-append-drop i ks) ∙ ap (λ xs. take i ks ++ xs) (drop-cons ks i 0 less))
       ∙ first_of-append g (take i ks) (get_or ks i 0 ∷ drop (suc i) ks)
       ∙ ap (λ o. option_or o (first_some (map g (get_or ks i 0 ∷ drop (suc i) ks)))) h
       ∙ first_of-cons g (get_or ks i 0) (drop (suc i) ks) ∙ ap (λ o. option_or o (first_some (map g (drop (suc i) ks)))) e)
 
-  pub list_end : (ks : List ℕ) (i : ℕ) → length ks ≤ i → first_found_in index run class s (take i ks) ≡ None → None ≡ first_found_in index run class s ks
-  list_end ks i past h = sym h ∙ ap (first_found_in index run class s) (take_all i ks past)
+  pub list_end : (ks : List ℕ) (i : ℕ) → length ks ≤ i → first_found_in index run w (take i ks) ≡ None → None ≡ first_found_in index run w ks
+  list_end ks i past h = sym h ∙ ap (first_found_in index run w) (take_all i ks past)
 
-  pub looked_at : (itself : Option ℕ) (k : ℕ) → itself ≡ Some k → found_in_object index run class s k ≡ None → IfSome itself (λ n. found_in_object index run class s n ≡ None)
-  looked_at itself k is h = subst (λ o. IfSome o (λ n. found_in_object index run class s n ≡ None)) (sym is) h
+  pub looked_at : (itself : Option ℕ) (k : ℕ) → itself ≡ Some k → found_in_object index run w k ≡ None → IfSome itself (λ n. found_in_object index run w n ≡ None)
+  looked_at itself k is h = subst (λ o. IfSome o (λ n. found_in_object index run w n ≡ None)) (sym is) h
 
-  pub none_itself : (itself : Option ℕ) → itself ≡ None → IfSome itself (λ n. found_in_object index run class s n ≡ None)
-  none_itself itself is = subst (λ o. IfSome o (λ n. found_in_object index run class s n ≡ None)) (sym is) tt
+  pub none_itself : (itself : Option ℕ) → itself ≡ None → IfSome itself (λ n. found_in_object index run w n ≡ None)
+  none_itself itself is = subst (λ o. IfSome o (λ n. found_in_object index run w n ≡ None)) (sym is) tt
 
-  none_listed : (itself : Option ℕ) → IfSome itself (λ k. found_in_object index run class s k ≡ None) → first_some (map (found_in_object index run class s) (option_to_list itself)) ≡ None
+  none_listed : (itself : Option ℕ) → IfSome itself (λ k. found_in_object index run w k ≡ None) → first_some (map (found_in_object index run w) (option_to_list itself)) ≡ None
   none_listed None h = refl
-  none_listed (Some k) h = one_of (found_in_object index run class s k) ∙ h
+  none_listed (Some k) h = one_of (found_in_object index run w k) ∙ h
 
-  pub scope_itself : (itself : Option ℕ) (k : ℕ) (d : Def) (rest : List ℕ) → itself ≡ Some k → found_in_object index run class s k ≡ Some d → Some d ≡ first_found_in index run class s (option_to_list itself ++ rest)
+  pub scope_itself : (itself : Option ℕ) (k : ℕ) (d : Def) (rest : List ℕ) → itself ≡ Some k → found_in_object index run w k ≡ Some d → Some d ≡ first_found_in index run w (option_to_list itself ++ rest)
   unfolding first_found_in
   scope_itself itself k d rest is e =
-      let g : ℕ → Option Def = found_in_object index run class s in
+      let g : ℕ → Option Def = found_in_object index run w in
       sym (ap (λ o. first_some (map g (option_to_list o ++ rest))) is ∙ first_of-cons g k rest ∙ ap (λ o. option_or o (first_some (map g rest))) e)
 
-  pub scope_rest : (itself : Option ℕ) (ys zs : List ℕ) (r : Option Def) → IfSome itself (λ k. found_in_object index run class s k ≡ None) → option_or (first_found_in index run class s ys) (first_found_in index run class s zs) ≡ r → r ≡ first_found_in index run class s (option_to_list itself ++ (ys ++ zs))
+  pub scope_rest : (itself : Option ℕ) (ys zs : List ℕ) (r : Option Def) → IfSome itself (λ k. found_in_object index run w k ≡ None) → option_or (first_found_in index run w ys) (first_found_in index run w zs) ≡ r → r ≡ first_found_in index run w (option_to_list itself ++ (ys ++ zs))
   unfolding first_found_in
   scope_rest itself ys zs r h e =
-      let g : ℕ → Option Def = found_in_object index run class s in
+      let g : ℕ → Option Def = found_in_object index run w in
       sym (scope_parts g (option_to_list itself) ys zs ∙ ap (λ o. option_or o (option_or (first_some (map g ys)) (first_some (map g zs)))) (none_listed itself h) ∙ e)

@@ -1,15 +1,14 @@
 -- What a reference finds, by an index that tells of each face what offers depend on.
 use Rattle.std.specs.Prelude.{ℕ, List, ◌<◌, ◌≤◌, ◌^◌, ◌==◌, ◌&&◌, All, cond, Option, None, length, map, slice_get}
-use Rattle.std.specs.Option.{option_and_then, option_map}
+use Rattle.std.specs.Option.{option_and_then, option_copied, option_map}
 use Rattle.answers.specs.First.{first_some}
-use Rattle.load_model.specs.Bindings.{is_copy, wanted_version}
+use Rattle.load_model.specs.Bindings.{is_copy}
 use Rattle.load_model.specs.Offers.{Offered, offer_of}
 use Rattle.load_model.specs.Runs.{AreBelow}
 use Rattle.load_model.specs.declared.runs.Def.{Def}
 use Rattle.load_model.specs.declared.runs.Obj.{Obj}
 use Rattle.load_model.specs.declared.runs.Run.{Run}
-use Rattle.load_model.specs.declared.symbols.Class.{Class}
-use Rattle.load_model.specs.declared.symbols.Sym.{Sym}
+use Rattle.scope_lookup.specs.declared.wanting.Wanted.{Wanted}
 
 -- Each object has a place in the index, the numbers of its symbols have 32 bits, and scopes are
 -- made of numbers of objects.
@@ -25,17 +24,16 @@ abbrev pub offered_at : List Offered → Run → ℕ → Option Offered
 offered_at index run k = option_and_then (λ o. slice_get index o.face) (slice_get run.objs k)
 
 -- The offer of the object of this number.
-abbrev pub offer_in : List Offered → Run → Class → Sym → ℕ → Option Def
-offer_in index run class s k =
+abbrev pub offer_in : List Offered → Run → Wanted → ℕ → Option Def
+offer_in index run w k =
     option_map (λ i. record { obj = k; sym = i })
-    (option_and_then (λ o. offer_of o s.name (wanted_version s.version) class)
+    (option_and_then (λ o. offer_of o w.name.now (option_copied w.version) w.class)
     (offered_at index run k))
 
--- What a reference by this symbol finds there; a copy finds nothing in the program.
-unfoldable pub found_in_object : List Offered → Run → Class → Sym → ℕ → Option Def
-found_in_object index run class s k =
-    cond ((k == 0) && is_copy class) None (offer_in index run class s k)
+-- What is found there; a copy finds nothing in the program.
+unfoldable pub found_in_object : List Offered → Run → Wanted → ℕ → Option Def
+found_in_object index run w k = cond ((k == 0) && is_copy w.class) None (offer_in index run w k)
 
--- The first that it finds in these objects.
-unfoldable pub first_found_in : List Offered → Run → Class → Sym → List ℕ → Option Def
-first_found_in index run class s ks = first_some (map (found_in_object index run class s) ks)
+-- The first that is found in these objects.
+unfoldable pub first_found_in : List Offered → Run → Wanted → List ℕ → Option Def
+first_found_in index run w ks = first_some (map (found_in_object index run w) ks)

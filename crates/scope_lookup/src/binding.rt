@@ -7,7 +7,8 @@ ghost use Rattle.load_model.specs.Bindings.{binds_itself, bound_to, is_copy, is_
 ghost use Rattle.load_model.specs.Opening.{AreFew};
 ghost use Rattle.load_model.specs.Runs.{IsRunOver};
 
-use crate::lookup::{Reference, first_in_scope};
+use crate::lookup::first_in_scope;
+use crate::wanting::Wanted;
 use byte_view::constants::{STV_HIDDEN, STV_INTERNAL, STV_PROTECTED};
 use load_model::{Class, Def, Face, Offers, Run, Sym};
 
@@ -37,7 +38,7 @@ pub fn bind<F: Offers>(
         return Some(Def { obj, sym });
     }
     let itself = if face.symbolic { Some(obj) } else { None };
-    first_in_scope(index, run, obj, itself, Reference { symbol, class })
+    first_in_scope(index, run, obj, itself, Wanted::by(symbol, class))
 }
 
 /// Whether a reference binds to its own symbol, whatever the scope has.

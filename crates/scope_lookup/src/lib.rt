@@ -11,6 +11,7 @@ mod checking;
 mod files;
 mod lookup;
 mod stops;
+mod wanting;
 
 pub use binding::bind;
 pub use checking::check_versions;

@@ -4,22 +4,15 @@
 //! `load_model`; what is found here, by an index of faces, in `specs/Finding.antt`.
 
 ghost use Rattle.std.specs.Prelude.{◌≡◌, ◌<◌, ◌≤◌, ◌++◌, All, IfSome, None, length, map, slice_get};
-ghost use Rattle.std.specs.Option.{option_copied, option_to_list};
-ghost use Rattle.load_model.specs.Bindings.{wanted_version};
+ghost use Rattle.std.specs.Option.{option_to_list};
 ghost use Rattle.load_model.specs.LoadList.{up_to};
 ghost use Rattle.load_model.specs.Runs.{AreBelow};
 ghost use Rattle.load_model.specs.Scopes.{local_of};
 ghost use Rattle.scope_lookup.specs.Finding.{IsSearchable, first_found_in, found_in_object};
 
 use crate::binding::is_copy;
-use load_model::{Class, Def, Offers, Run, Sym, Ver};
-
-/// A symbol that is looked up, in a class.
-#[derive(Clone, Copy)]
-pub struct Reference<'a> {
-    pub symbol: &'a Sym,
-    pub class: Class,
-}
+use crate::wanting::Wanted;
+use load_model::{Def, Offers, Run};
 
 /// The first offer of the scope of an object; `itself` is the object where it is symbolic.
 pub fn first_in_scope<F: Offers>(
@@ -27,25 +20,24 @@ pub fn first_in_scope<F: Offers>(
     run: &Run,
     obj: u32,
     itself: Option<u32>,
-    reference: Reference<'_>,
+    wanted: Wanted<'_>,
 ) -> Option<Def>
     requires searchable { IsSearchable (map F.offered index.now) run.now }
     requires obj { obj < length run.now.objs }
     requires itself { IfSome itself (λ k. k < length run.now.objs) }
-    ensures { result ≡ first_found_in (map F.offered index.now) run.now reference.entry.class
-        reference.entry.symbol.now
+    ensures { result ≡ first_found_in (map F.offered index.now) run.now wanted.entry
         (option_to_list itself ++ (up_to run.now.global
         ++ local_of run.now (slice_get run.now.objs obj))) }
 {
     if let Some(number) = itself {
-        if let Some(def) = offer_at(index, run, number, reference) {
+        if let Some(def) = offer_at(index, run, number, wanted) {
             return Some(def);
         }
     }
-    if let Some(def) = first_global(index, run, itself, reference) {
+    if let Some(def) = first_global(index, run, itself, wanted) {
         return Some(def);
     }
-    first_local(index, run, local_list(run, obj), itself, reference)
+    first_local(index, run, local_list(run, obj), itself, wanted)
 }
 
 /// The first offer of the global list. The object itself is not looked at again.
@@ -53,17 +45,17 @@ fn first_global<F: Offers>(
     index: &[F],
     run: &Run,
     itself: Option<u32>,
-    reference: Reference<'_>,
+    wanted: Wanted<'_>,
 ) -> Option<Def>
     requires searchable { IsSearchable (map F.offered index.now) run.now }
     requires looked { IfSome itself (λ k. found_in_object (map F.offered index.now) run.now
-        reference.class reference.symbol.now k ≡ None) }
-    ensures { result ≡ first_found_in (map F.offered index.now) run.now reference.entry.class
-        reference.entry.symbol.now (up_to run.now.global) }
+        wanted k ≡ None) }
+    ensures { result ≡ first_found_in (map F.offered index.now) run.now wanted.entry
+        (up_to run.now.global) }
 {
     for number in 0..run.global {
         if Some(number) != itself {
-            if let Some(def) = offer_at(index, run, number, reference) {
+            if let Some(def) = offer_at(index, run, number, wanted) {
                 return Some(def);
             }
         }
@@ -78,20 +70,20 @@ fn first_local<F: Offers>(
     run: &Run,
     numbers: &[u32],
     itself: Option<u32>,
-    reference: Reference<'_>,
+    wanted: Wanted<'_>,
 ) -> Option<Def>
     requires searchable { IsSearchable (map F.offered index.now) run.now }
     requires numbers { AreBelow (length run.now.objs) numbers.now }
     requires looked { IfSome itself (λ k. found_in_object (map F.offered index.now) run.now
-        reference.class reference.symbol.now k ≡ None) }
-    requires global { first_found_in (map F.offered index.now) run.now reference.class
-        reference.symbol.now (up_to run.now.global) ≡ None }
-    ensures { result ≡ first_found_in (map F.offered index.now) run.now reference.entry.class
-        reference.entry.symbol.now numbers.now }
+        wanted k ≡ None) }
+    requires global { first_found_in (map F.offered index.now) run.now wanted
+        (up_to run.now.global) ≡ None }
+    ensures { result ≡ first_found_in (map F.offered index.now) run.now wanted.entry
+        numbers.now }
 {
     for number in numbers {
         if *number >= run.global && Some(*number) != itself {
-            if let Some(def) = offer_at(index, run, *number, reference) {
+            if let Some(def) = offer_at(index, run, *number, wanted) {
                 return Some(def);
             }
         }
@@ -114,33 +106,18 @@ fn local_list(run: &Run, obj: u32) -> &[u32]
 }
 
 /// What an object offers to a reference. The program offers nothing to a copy.
-fn offer_at<F: Offers>(index: &[F], run: &Run, number: u32, reference: Reference<'_>) -> Option<Def>
+fn offer_at<F: Offers>(index: &[F], run: &Run, number: u32, wanted: Wanted<'_>) -> Option<Def>
     requires searchable { IsSearchable (map F.offered index.now) run.now }
     requires number { number < length run.now.objs }
-    ensures { result ≡ found_in_object (map F.offered index.now) run.now reference.entry.class
-        reference.entry.symbol.now number }
+    ensures { result ≡ found_in_object (map F.offered index.now) run.now wanted.entry
+        number }
 {
-    if number == 0 && is_copy(reference.class) {
+    if number == 0 && is_copy(wanted.class) {
         return None;
     }
-    let symbol = reference.symbol;
     let offers = &index[run.objs.as_slice()[number as usize].face as usize];
-    match offers.offer(
-        symbol.name.as_bytes(),
-        wanted_version(&symbol.version),
-        reference.class,
-    ) {
+    match offers.offer(wanted.name, wanted.version, wanted.class) {
         Some(sym) => Some(Def { obj: number, sym }),
         None => None,
-    }
-}
-
-/// The name of the version that a reference asks for, if any.
-fn wanted_version(version: &Ver) -> Option<&[u8]>
-    ensures { option_copied result ≡ wanted_version version.now }
-{
-    match version {
-        Ver::Local | Ver::Global => None,
-        Ver::Named { name, .. } => Some(name.as_bytes()),
     }
 }

@@ -24,8 +24,8 @@ returns g c =
     ] in
     let rest = up_to c.args.run.now.global ++ local_of c.args.run.now (slice_get c.args.run.now.objs c.args.obj) in
     c.first_in_scope.ensures
-    ∙ ap (λ xs. first_found_in (map g.F.Offers.offered c.args.index.now) c.args.run.now c.args.class c.index-as_slice-sym.result (xs ++ rest)) listed
-    ∙ ap (λ os. first_found_in os c.args.run.now c.args.class c.index-as_slice-sym.result (itself c.args.faces.now c.args.run.now c.args.obj ++ rest)) c.requires.index
-    ∙ sym (bound_found c.args.faces.now c.args.run.now c.args.obj c.args.sym c.args.class c.index-as_slice-sym.result
+    ∙ ap (λ xs. first_found_in (map g.F.Offers.offered c.args.index.now) c.args.run.now c.by.result (xs ++ rest)) listed
+    ∙ ap (λ os. first_found_in os c.args.run.now c.by.result (itself c.args.faces.now c.args.run.now c.args.obj ++ rest)) c.requires.index
+    ∙ sym (bound_found c.args.faces.now c.args.run.now c.args.obj c.args.sym c.args.class c.index-as_slice-sym.result c.by.result
     (symbol_there c.args.faces.now c.args.run.now c.args.obj c.args.sym c.face_of-face.result.now c.as_slice.result.now c.index-as_slice-sym.result c.face_of-face.ensures c.as_slice.ensures c.requires.sym c.index-as_slice-sym.is)
-    (sym c.binds_itself.ensures ∙ c.if-binds_itself.false))
+    (sym c.binds_itself.ensures ∙ c.if-binds_itself.false) c.by.ensures.name c.by.ensures.version c.by.ensures.class)

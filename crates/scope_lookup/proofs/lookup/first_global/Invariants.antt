@@ -4,4 +4,4 @@ use Rattle.scope_lookup.specs.Finding.{first_found_in}
 use Rattle.scope_lookup.proofs.lookup.first_global.Given as goal
 
 abbrev pub invariant-loop-number : goal.invariant-loop-number
-invariant-loop-number g l = first_found_in (map g.F.Offers.offered l.index) l.run l.reference.class l.reference.symbol.now (up_to l.number) ≡ None
+invariant-loop-number g l = first_found_in (map g.F.Offers.offered l.index) l.run l.wanted (up_to l.number) ≡ None
