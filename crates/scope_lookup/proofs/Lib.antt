@@ -1,3 +1,4 @@
 pub mod EarlierLemmas
 pub mod ScopeLemmas
+pub mod KeepingLemmas
 pub mod AskingLemmas

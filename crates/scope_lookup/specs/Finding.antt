@@ -1,8 +1,9 @@
 -- What a reference finds, by an index that tells of each face what offers depend on.
-use Rattle.std.specs.Prelude.{ℕ, List, ◌<◌, ◌≤◌, ◌^◌, ◌==◌, ◌&&◌, All, cond, Option, None, length, map, slice_get}
+use Rattle.std.specs.Prelude.{ℕ, List, ◌≡◌, ◌<◌, ◌≤◌, ◌^◌, ◌==◌, ◌&&◌, All, cond, Option, None, length, map, slice_get}
 use Rattle.std.specs.Option.{option_and_then, option_copied, option_map}
 use Rattle.answers.specs.First.{first_some}
 use Rattle.load_model.specs.Bindings.{is_copy}
+use Rattle.load_model.specs.LoadList.{up_to}
 use Rattle.load_model.specs.Offers.{Offered, offer_of}
 use Rattle.load_model.specs.Runs.{AreBelow}
 use Rattle.load_model.specs.declared.runs.Def.{Def}
@@ -37,3 +38,8 @@ found_in_object index run w k = cond ((k == 0) && is_copy w.class) None (offer_i
 -- The first that is found in these objects.
 unfoldable pub first_found_in : List Offered → Run → Wanted → List ℕ → Option Def
 first_found_in index run w ks = first_some (map (found_in_object index run w) ks)
+
+-- Beside each of these wants stands the first that is found in the global list.
+abbrev pub AreFoundGlobally : List Offered → Run → List (Wanted × Option Def) → Type 0
+AreFoundGlobally index run kept =
+    All (λ e. e.1 ≡ first_found_in index run e.0 (up_to run.global)) kept

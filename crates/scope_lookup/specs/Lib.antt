@@ -1,3 +1,4 @@
 pub mod Finding
+pub mod Binders
 pub mod Firsts
 pub mod Asking

@@ -42,7 +42,7 @@ pub fn bind<F: Offers>(
 }
 
 /// Whether a reference binds to its own symbol, whatever the scope has.
-fn binds_itself(class: Class, symbol: &Sym) -> bool
+pub fn binds_itself(class: Class, symbol: &Sym) -> bool
     ensures { result ≡ binds_itself class symbol.now }
 {
     !is_copy(class) && is_own(symbol)

@@ -6,6 +6,7 @@
 //! `specs/VersionCheck.antt`.
 #![tactic(auto)]
 
+mod binders;
 mod binding;
 mod checking;
 mod files;
@@ -13,6 +14,7 @@ mod lookup;
 mod stops;
 mod wanting;
 
+pub use binders::Binder;
 pub use binding::bind;
 pub use checking::check_versions;
 pub use stops::VersionStop;

@@ -41,7 +41,7 @@ pub fn first_in_scope<F: Offers>(
 }
 
 /// The first offer of the global list. The object itself is not looked at again.
-fn first_global<F: Offers>(
+pub fn first_global<F: Offers>(
     index: &[F],
     run: &Run,
     itself: Option<u32>,
@@ -65,7 +65,7 @@ fn first_global<F: Offers>(
 
 /// The first offer of a local list. Neither the object itself nor the global list is looked at
 /// again.
-fn first_local<F: Offers>(
+pub fn first_local<F: Offers>(
     index: &[F],
     run: &Run,
     numbers: &[u32],
@@ -92,7 +92,7 @@ fn first_local<F: Offers>(
 }
 
 /// The local list of the opened name that brought an object; empty for those of the start.
-fn local_list(run: &Run, obj: u32) -> &[u32]
+pub fn local_list(run: &Run, obj: u32) -> &[u32]
     requires obj { obj < length run.now.objs }
     requires phases { All (λ o. o.phase ≤ length run.now.locals) run.now.objs }
     requires locals { All (AreBelow (length run.now.objs)) run.now.locals }
@@ -106,7 +106,7 @@ fn local_list(run: &Run, obj: u32) -> &[u32]
 }
 
 /// What an object offers to a reference. The program offers nothing to a copy.
-fn offer_at<F: Offers>(index: &[F], run: &Run, number: u32, wanted: Wanted<'_>) -> Option<Def>
+pub fn offer_at<F: Offers>(index: &[F], run: &Run, number: u32, wanted: Wanted<'_>) -> Option<Def>
     requires searchable { IsSearchable (map F.offered index.now) run.now }
     requires number { number < length run.now.objs }
     ensures { result ≡ found_in_object (map F.offered index.now) run.now wanted.entry

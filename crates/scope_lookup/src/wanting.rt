@@ -10,10 +10,13 @@ ghost use Rattle.load_model.specs.Bindings.{wanted_version};
 use load_model::{Class, Sym, Ver};
 
 /// All that an offer to a reference depends on, besides the object that makes it.
-#[derive(Clone, Copy)]
+#[derive(Clone, Copy, PartialEq, Eq)]
+#[derive_where(Hash)]
 pub struct Wanted<'a> {
     pub name: &'a [u8],
     pub version: Option<&'a [u8]>,
+    // not hashed: at most three classes have the hash of one name and version
+    #[derive_where(skip(Hash))]
     pub class: Class,
 }
 
