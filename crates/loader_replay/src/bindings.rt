@@ -12,13 +12,13 @@ ghost use Rattle.loader_replay.specs.Binding.{binds_at, object_symbol_count};
 use byte_view::constants::STT_OBJECT;
 use load_model::{Bind, Class, Face, List, Offers, Run, Sym, is_shared};
 use path_text::NoMemory;
-use scope_lookup::bind;
+use scope_lookup::Binder;
 use std::alloc::Global;
 
 /// What the references of a run bind to, by object, symbol and class.
 ///
-/// `index` tells of each face what binds to it. Asks it once for each reference and object of its
-/// scope, and takes memory for the list alone.
+/// `index` tells of each face what binds to it. The global list is gone through once for each name,
+/// version and class. Takes memory for what is found there, and for the bindings.
 pub fn binds_of<F: Offers>(
     alloc: Global,
     faces: &[Face],
@@ -31,79 +31,70 @@ pub fn binds_of<F: Offers>(
     ensures binds { IfOk result (λ binds. binds ≡ all_binds faces.now run.now) }
     ensures over { IfOk result (λ binds. All (IsBindOver faces.now run.now) binds) }
 {
+    let mut binder = Binder::new(alloc, faces, index, run);
     let mut binds = List::new(alloc);
     for obj in 0..run.objs.as_slice().len() as u32 {
-        add_object(faces, index, run, obj, &mut binds)?;
+        add_object(&mut binder, obj, &mut binds)?;
     }
     Ok(binds)
 }
 
 /// Adds what the references of an object bind to.
 fn add_object<F: Offers>(
-    faces: &[Face],
-    index: &[F],
-    run: &Run,
+    binder: &mut Binder<'_, F>,
     obj: u32,
     binds: &mut List<Bind>,
 ) -> Result<(), NoMemory>
-    requires run { IsRunOver faces.now run.now }
-    requires few { AreFew faces.now }
-    requires index { map F.offered index.now ≡ map offered_by faces.now }
-    requires obj { obj < length run.now.objs }
-    ensures { OnOk result (binds.new ≡ binds.old ++ binds_of_object faces.now run.now obj) }
+    requires obj { obj < length binder.old.run.objs }
+    ensures binds { OnOk result (binds.new
+        ≡ binds.old ++ binds_of_object binder.old.faces binder.old.run obj) }
+    ensures same { binder.new ≡ binder.old }
 {
-    for sym in 1..object_symbol_count(faces, run, obj) {
-        add_symbol(faces, index, run, obj, sym, binds)?;
+    for sym in 1..object_symbol_count(binder, obj) {
+        add_symbol(binder, obj, sym, binds)?;
     }
     Ok(())
 }
 
 /// Adds what a symbol binds to in each class in which it is a reference.
 fn add_symbol<F: Offers>(
-    faces: &[Face],
-    index: &[F],
-    run: &Run,
+    binder: &mut Binder<'_, F>,
     obj: u32,
     sym: u32,
     binds: &mut List<Bind>,
 ) -> Result<(), NoMemory>
-    requires run { IsRunOver faces.now run.now }
-    requires few { AreFew faces.now }
-    requires index { map F.offered index.now ≡ map offered_by faces.now }
-    requires obj { obj < length run.now.objs }
-    requires sym { IsSome (symbol_at faces.now run.now obj sym) }
-    ensures { OnOk result (binds.new ≡ binds.old ++ binds_at faces.now run.now obj sym) }
+    requires obj { obj < length binder.old.run.objs }
+    requires sym { IsSome (symbol_at binder.old.faces binder.old.run obj sym) }
+    ensures binds { OnOk result (binds.new
+        ≡ binds.old ++ binds_at binder.old.faces binder.old.run obj sym) }
+    ensures same { binder.new ≡ binder.old }
 {
-    let symbol = &run.face_of(faces, obj).syms.as_slice()[sym as usize];
+    let symbol = &binder.face_of(obj).syms.as_slice()[sym as usize];
     if is_shared(symbol.binding) {
-        add_reference(faces, index, run, obj, sym, Class::Call, binds)?;
+        add_reference(binder, obj, sym, Class::Call, binds)?;
         if may_copy(obj, symbol) {
-            add_reference(faces, index, run, obj, sym, Class::Copy, binds)?;
+            add_reference(binder, obj, sym, Class::Copy, binds)?;
         }
-        add_reference(faces, index, run, obj, sym, Class::Plain, binds)?;
+        add_reference(binder, obj, sym, Class::Plain, binds)?;
     }
     Ok(())
 }
 
 /// Adds what a symbol binds to in a class.
 fn add_reference<F: Offers>(
-    faces: &[Face],
-    index: &[F],
-    run: &Run,
+    binder: &mut Binder<'_, F>,
     obj: u32,
     sym: u32,
     class: Class,
     binds: &mut List<Bind>,
 ) -> Result<(), NoMemory>
-    requires run { IsRunOver faces.now run.now }
-    requires few { AreFew faces.now }
-    requires index { map F.offered index.now ≡ map offered_by faces.now }
-    requires obj { obj < length run.now.objs }
-    requires sym { IsSome (symbol_at faces.now run.now obj sym) }
-    ensures { OnOk result (binds.new
-        ≡ binds.old ++ bind_of faces.now run.now obj sym class ∷ []) }
+    requires obj { obj < length binder.old.run.objs }
+    requires sym { IsSome (symbol_at binder.old.faces binder.old.run obj sym) }
+    ensures binds { OnOk result (binds.new
+        ≡ binds.old ++ bind_of binder.old.faces binder.old.run obj sym class ∷ []) }
+    ensures same { binder.new ≡ binder.old }
 {
-    let to = bind(faces, index, run, obj, sym, class);
+    let to = binder.bind(obj, sym, class)?;
     binds.push(Bind {
         obj,
         sym,
@@ -113,13 +104,11 @@ fn add_reference<F: Offers>(
 }
 
 /// How many symbols an object has.
-fn object_symbol_count(faces: &[Face], run: &Run, obj: u32) -> u32
-    requires run { IsRunOver faces.now run.now }
-    requires few { AreFew faces.now }
-    requires obj { obj < length run.now.objs }
-    ensures { result ≡ object_symbol_count faces.now run.now obj }
+fn object_symbol_count<F: Offers>(binder: &Binder<'_, F>, obj: u32) -> u32
+    requires { obj < length binder.now.run.objs }
+    ensures { result ≡ object_symbol_count binder.now.faces binder.now.run obj }
 {
-    run.face_of(faces, obj).syms.as_slice().len() as u32
+    binder.face_of(obj).syms.as_slice().len() as u32
 }
 
 /// Whether a symbol of this object may be a copy of another object's: a variable that the program

@@ -5,4 +5,6 @@ use Rattle.load_model.specs.LoadList.{up_to}
 use Rattle.loader_replay.proofs.bindings.binds_of.Given as goal
 
 abbrev pub invariant-loop-obj : goal.invariant-loop-obj
-invariant-loop-obj g l = l.binds ≡ flat_map (binds_of_object l.faces l.run) (up_to l.obj)
+invariant-loop-obj g l =
+    (l.binder.faces ≡ l.fn.faces) × (l.binder.run ≡ l.fn.run)
+    × (l.binds ≡ flat_map (binds_of_object l.fn.faces l.fn.run) (up_to l.obj))
