@@ -8,3 +8,4 @@ pub mod Whole
 pub mod Unflawed
 pub mod Linked
 pub mod LeastOdd
+pub mod StringRangeLemmas

@@ -127,3 +127,8 @@ steps_are_list (suc n) chains at (i ∷ rest) e c =
 pub chain_lists : (chains list : List ℕ) (at i : ℕ) → ends_in (length chains) chains at ≡ true → IsChain chains at list → is_in_chain chains at i ≡ list_any (λ j. j == i) list
 unfolding is_in_chain
 chain_lists chains list at i e c = ap (list_any (λ j. j == i)) (steps_are_list (length chains) chains at list e c)
+
+-- each symbol that other objects may bind to is listed by all tables that are there, and there is one
+pub each_listed : (file : List ℕ) (i : ℕ) (s : RawSym) → symbol_flaw file ≡ None → slice_get (symbols_of file) i ≡ Some s → is_offerable i s ≡ true → is_listed (sysv_in file (headers file) (dynamic_entries file)) (gnu_in file (headers file) (dynamic_entries file)) (name_in (file_strings file) s) i ≡ true
+each_listed file i s e at offered =
+    listed (sysv_in file (headers file) (dynamic_entries file)) (gnu_in file (headers file) (dynamic_entries file)) (file_strings file) (symbols_of file) i s (none_lost file e) at offered

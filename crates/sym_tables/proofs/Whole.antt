@@ -25,7 +25,7 @@ use Rattle.load_model.specs.declared.symbols.RawSym.{RawSym}
 use Rattle.sym_tables.specs.Counts.{counts_flaw}
 use Rattle.sym_tables.specs.FoundTables.{HasBucket, IsGnuAt, IsSysvAt}
 use Rattle.sym_tables.specs.Listing.{file_strings, gnu_of, lists_flaw, sysv_of}
-use Rattle.sym_tables.specs.ReadSymbols.{AreSymsBy, AreHashTablesOf, IsSymsOf, Symbols}
+use Rattle.sym_tables.specs.ReadSymbols.{AreStringsAt, AreSymsBy, AreHashTablesOf, IsSymsOf, Symbols}
 use Rattle.sym_tables.specs.declared.gnu.FoundGnu.{FoundGnu}
 use Rattle.sym_tables.specs.declared.sysv.FoundSysv.{FoundSysv}
 use Rattle.sym_tables.specs.declared.tables.Tables.{Tables}
@@ -114,18 +114,24 @@ syms_are file segments table s r is none are = record {
   raw = rw (r.same, is.entries) at are.raw;
   hash_range = rw (r.same, is.entries) at are.hash_range;
   gnu_range = rw (r.same, is.entries) at are.gnu_range;
+  sysv = rw (r.same, is.entries) at are.sysv;
+  gnu = rw (r.same, is.entries) at are.gnu;
+  strings = are.strings;
 }
 
 symbols_many : (file : List ℕ) (segments : List Segment) (addr count : ℕ) → length (symbols_in file segments addr count) ≡ count
 unfolding symbols_in
 symbols_many file segments addr count = length-map-range_with_len (λ i. symbol_of (memory_bytes file segments (addr + 24 * i) 24) 0) 0 count
 
-pub syms_made : (file : List ℕ) (segments : List Segment) (entries : List Entry) (t : Tables) (symbols : List RawSym) (addr count : ℕ) → AreHashTablesOf t file segments entries → count ≡ count_by file segments entries → addr ≡ symbols_at entries → symbols ≡ symbols_in file segments addr count → AreSymsBy (record { count = length symbols; raw = symbols; hash_range = option_map (λ f. f.range) t.sysv; gnu_range = option_map (λ f. f.range) t.gnu }) file segments entries
-syms_made file segments entries t symbols addr count are c at s = record {
+pub syms_made : (file : List ℕ) (segments : List Segment) (entries : List Entry) (t : Tables) (symbols : List RawSym) (addr count : ℕ) (strings : ℕ × ℕ) → AreHashTablesOf t file segments entries → count ≡ count_by file segments entries → addr ≡ symbols_at entries → symbols ≡ symbols_in file segments addr count → AreStringsAt strings file → AreSymsBy (record { count = length symbols; raw = symbols; hash_range = option_map (λ f. f.range) t.sysv; gnu_range = option_map (λ f. f.range) t.gnu; sysv = sysv_of t.sysv; gnu = gnu_of t.gnu; strings = strings }) file segments entries
+syms_made file segments entries t symbols addr count strings are c at s here = record {
   count = ap length s ∙ (symbols_many file segments addr count ∙ c);
   raw = rw (at, c) at s;
   hash_range = sysv_ranges file segments t.sysv (value_of DT_HASH entries) are.sysv;
   gnu_range = gnu_ranges file segments t.gnu (value_of DT_GNU_HASH entries) are.gnu;
+  sysv = sysv_tables file segments t.sysv (value_of DT_HASH entries) are.sysv;
+  gnu = gnu_tables file segments t.gnu (value_of DT_GNU_HASH entries) are.gnu;
+  strings = here;
 }
 
 pub syms_of_result : (file : List ℕ) (segments : List Segment) (table : Table) (r : Result Symbols SymFault) → IsReadFrom segments file → IsTableOf table file → TellsBy symbol_fault_flaw r (symbol_flaw_by file segments table.entries) → IfOk r (λ s. AreSymsBy s file segments table.entries) → IfOk r (λ s. IsSymsOf s file)

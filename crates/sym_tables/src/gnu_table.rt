@@ -33,7 +33,8 @@ fn starts_of(alloc: Global, words: &[u32]) -> Result<Vec<usize>, AllocError>
     Ok(starts)
 }
 
-fn has_bit(word: u64, bit: u32) -> bool
+/// Is a bit of a word set?
+pub fn has_bit(word: u64, bit: u32) -> bool
     requires { bit < 64 }
     ensures { result ≡ has_bit_of word bit }
 {
@@ -53,7 +54,7 @@ fn begins_by(starts: &[usize], place: usize, first: usize) -> bool
 
 /// The table, and for each chain word the place at which its chain begins.
 #[derive(Drop)]
-pub(crate) struct GnuTable {
+pub struct GnuTable {
     offset: u32,
     shift: u32,
     bloom: Vec<u64>,
@@ -95,6 +96,42 @@ impl GnuTable {
             words,
             starts,
         })
+    }
+
+    /// The first symbol that is listed.
+    pub fn offset(&self) -> u32
+        ensures { result ≡ self.now.offset }
+    {
+        self.offset
+    }
+
+    /// By how much a hash is shifted for the second of its bits in the Bloom filter.
+    pub fn shift(&self) -> u32
+        ensures value { result ≡ self.now.shift }
+        ensures little { result < 32 }
+    {
+        self.shift
+    }
+
+    /// The words of the Bloom filter.
+    pub fn bloom(&self) -> &[u64]
+        ensures { result.now ≡ self.now.bloom }
+    {
+        &self.bloom
+    }
+
+    /// The first symbol of each bucket, 0 where it has none.
+    pub fn buckets(&self) -> &[u32]
+        ensures { result.now ≡ self.now.buckets }
+    {
+        &self.buckets
+    }
+
+    /// The chain words of the symbols from the first listed one on.
+    pub fn words(&self) -> &[u32]
+        ensures { result.now ≡ self.now.words }
+    {
+        &self.words
     }
 
     /// Does the Bloom filter let a hash pass?

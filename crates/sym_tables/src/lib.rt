@@ -11,6 +11,7 @@ mod gnu_reach;
 mod gnu_table;
 mod laws;
 mod listing;
+mod strings;
 mod symbols;
 mod sysv;
 mod table;
@@ -20,7 +21,9 @@ mod words;
 
 pub use byte_view::Flaw;
 pub use faults::SymFault;
+pub use gnu_table::{GnuTable, has_bit};
 pub use hash_chains::{gnu_hash, sysv_hash};
 pub use laws::{chain_is_list, each_table_lists, reach_is_least, reach_within_symbols};
 pub use load_model::RawSym;
+pub use sysv::SysvTable;
 pub use table::Syms;

@@ -115,7 +115,7 @@ impl SysvWords {
 
 /// A table whose chains end.
 #[derive(Drop)]
-pub(crate) struct SysvTable {
+pub struct SysvTable {
     buckets: Vec<u32>,
     chains: Chains,
 }
@@ -137,6 +137,20 @@ impl SysvTable {
         ensures { result ≡ length self.now.chains }
     {
         self.chains.len()
+    }
+
+    /// The first symbol of each bucket, 0 where it has none.
+    pub fn buckets(&self) -> &[u32]
+        ensures { result.now ≡ self.now.buckets }
+    {
+        &self.buckets
+    }
+
+    /// For each symbol the next of its chain, 0 where it is the last.
+    pub fn chains(&self) -> &[u32]
+        ensures { result.now ≡ self.now.chains }
+    {
+        &self.chains.next
     }
 
     /// Whether the table lists a symbol whose name has this hash.

@@ -1,11 +1,13 @@
 //! The symbols of a file, once they and the hash tables are known to have no flaw.
 
-ghost use Rattle.std.specs.Prelude.{◌≡◌, IfOk};
+ghost use Rattle.std.specs.Prelude.{◌≡◌, ◌<◌, ◌^◌, IfOk, length};
+ghost use Rattle.std.specs.Option.{option_copied};
 ghost use Rattle.answers.specs.Answers.{TellsBy};
 ghost use Rattle.byte_view.specs.Dynamic.{strings_size};
 ghost use Rattle.byte_view.specs.Sound.{IsReadFrom};
 ghost use Rattle.dyn_table.specs.Table.{IsTableOf};
 ghost use Rattle.load_model.specs.SymbolFlaws.{count_by, count_flaw, symbol_flaw, symbol_flaw_by};
+ghost use Rattle.load_model.specs.VersionTables.{text_of};
 ghost use Rattle.sym_tables.specs.Faults.{symbol_fault_flaw};
 ghost use Rattle.sym_tables.specs.FoundTables.{HasBucket};
 ghost use Rattle.sym_tables.specs.Listing.{file_strings, flaw_behind_tables, gnu_of, lists_flaw, sysv_of};
@@ -13,8 +15,11 @@ ghost use Rattle.sym_tables.specs.ReadSymbols.{AreSymsBy, AreHashTablesOf, IsSym
 
 use crate::count::{check_count, section_count};
 use crate::faults::SymFault;
+use crate::gnu_table::GnuTable;
 use crate::listing::check_listed;
+use crate::strings::{strings_range, text_in};
 use crate::symbols::{check_names, read_symbols};
+use crate::sysv::SysvTable;
 use crate::tables::Tables;
 use crate::tags::{check_symbol_size, symbols_at};
 use byte_view::Entry;
@@ -29,14 +34,14 @@ use std::marker::Model;
 #[derive(Drop)]
 pub struct Syms {
     symbols: Vec<RawSym>,
-    hash: Option<(usize, usize)>,
-    gnu: Option<(usize, usize)>,
+    tables: Tables,
+    strings: (usize, usize),
 }
 
 impl Model for Syms {
     ghost use Rattle.std.specs.Prelude.{◌<◌, ◌^◌, length};
-    ghost use Rattle.sym_tables.specs.FoundTables.{HasBucket};
-    ghost use Rattle.sym_tables.specs.Listing.{file_strings, gnu_of, lists_flaw, sysv_of};
+    ghost use Rattle.std.specs.Option.{option_map};
+    ghost use Rattle.sym_tables.specs.Listing.{gnu_of, sysv_of};
     ghost use Rattle.sym_tables.specs.ReadSymbols.{Symbols};
 
     ghost Value = { Symbols };
@@ -44,9 +49,11 @@ impl Model for Syms {
     ghost view = { λ s. record {
       count = length s.symbols.items;
       raw = s.symbols.items;
-      hash_range =
-          s.hash;
-      gnu_range = s.gnu;
+      hash_range = option_map (λ f. f.range) s.tables.sysv;
+      gnu_range = option_map (λ f. f.range) s.tables.gnu;
+      sysv = sysv_of s.tables.sysv;
+      gnu = gnu_of s.tables.gnu;
+      strings = s.strings;
     } };
 
     ghost invariant = { λ s. length s.symbols.items < 2 ^ 32 };
@@ -76,7 +83,8 @@ impl Syms {
 
     /// The symbols by index, as the file has them.
     pub fn raw(&self) -> &[RawSym]
-        ensures { result.now ≡ self.now.raw }
+        ensures symbols { result.now ≡ self.now.raw }
+        ensures few { length result.now < 2 ^ 32 }
     {
         &self.symbols
     }
@@ -85,7 +93,7 @@ impl Syms {
     pub fn hash_range(&self) -> Option<(usize, usize)>
         ensures { result ≡ self.now.hash_range }
     {
-        self.hash
+        self.tables.hash_range()
     }
 
     /// Where the GNU hash table begins and ends in the file, if there is one. It ends behind the
@@ -93,7 +101,39 @@ impl Syms {
     pub fn gnu_range(&self) -> Option<(usize, usize)>
         ensures { result ≡ self.now.gnu_range }
     {
-        self.gnu
+        self.tables.gnu_range()
+    }
+
+    /// The hash table, if there is one.
+    pub fn sysv(&self) -> Option<&SysvTable>
+        ensures { option_copied result ≡ self.now.sysv }
+    {
+        match &self.tables.sysv {
+            Some(found) => Some(&found.table),
+            None => None,
+        }
+    }
+
+    /// The GNU hash table, if there is one.
+    pub fn gnu(&self) -> Option<&GnuTable>
+        ensures { option_copied result ≡ self.now.gnu }
+    {
+        match &self.tables.gnu {
+            Some(found) => Some(&found.table),
+            None => None,
+        }
+    }
+
+    /// The name of a symbol, empty where the string table ends before it.
+    ///
+    /// `bytes` are those that the symbols were read from.
+    #[tactic(auto, unfolding(byte_view::specs::Dynamic::string_at))]
+    pub fn name<'a>(&self, bytes: &'a [u8], s: &RawSym) -> &'a [u8]
+        requires { IsSymsOf self.now bytes.now }
+        ensures { result.now ≡ text_of bytes.now s.now.name }
+    {
+        let (from, to) = self.strings;
+        text_in(&bytes[from..to], s.name)
     }
 
     /// The same over the entries of the dynamic table.
@@ -107,7 +147,7 @@ impl Syms {
     {
         check_symbol_size(table.entries())?;
         let tables = Tables::read(alloc, elf, bytes, table.entries())?;
-        Syms::by_tables(alloc, elf, table, bytes, &tables)
+        Syms::by_tables(alloc, elf, table, bytes, tables)
     }
 
     /// The same, once the hash tables are read.
@@ -117,23 +157,23 @@ impl Syms {
         elf: &Elf,
         table: &Dyn,
         bytes: &[u8],
-        tables: &Tables,
+        tables: Tables,
     ) -> Result<Syms, SymFault>
         requires elf { IsReadFrom elf.now bytes.now }
         requires table { IsTableOf table.now bytes.now }
-        requires tables { AreHashTablesOf tables.now bytes.now elf.now table.now.entries }
+        requires tables { AreHashTablesOf tables bytes.now elf.now table.now.entries }
         ensures flaw { TellsBy symbol_fault_flaw result (flaw_behind_tables bytes.now elf.now
             table.now.entries) }
         ensures table { IfOk result (λ s. AreSymsBy s bytes.now elf.now table.now.entries) }
     {
         let entries = table.entries();
-        let count = count_of(elf, bytes, entries, tables)?;
+        let count = count_of(elf, bytes, entries, &tables)?;
         let symbols = read_symbols(alloc, elf, bytes, symbols_at(entries), count)?;
-        check_list(table, bytes, tables, &symbols)?;
+        check_list(table, bytes, &tables, &symbols)?;
         Ok(Syms {
             symbols,
-            hash: tables.hash_range(),
-            gnu: tables.gnu_range(),
+            tables,
+            strings: strings_range(elf, table, bytes),
         })
     }
 }
