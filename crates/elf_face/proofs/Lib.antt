@@ -1,3 +1,4 @@
 pub mod Within
 pub mod VersionFiles
 pub mod Numbered
+pub mod NameFlawLemmas

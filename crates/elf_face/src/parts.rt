@@ -7,21 +7,59 @@ ghost use Rattle.byte_view.specs.HeaderFlaws.{header_flaw};
 ghost use Rattle.byte_view.specs.Sound.{IsReadFrom};
 ghost use Rattle.dyn_table.specs.Table.{IsTableOf};
 ghost use Rattle.elf_face.specs.Faults.{flaw_of};
-ghost use Rattle.load_model.specs.SymbolFlaws.{symbol_flaw};
+ghost use Rattle.elf_face.specs.ReadParts.{ArePartsOf};
+ghost use Rattle.load_model.specs.Faces.{first_flaw, name_flaw};
+ghost use Rattle.load_model.specs.SymbolFlaws.{symbol_count, symbol_flaw};
 ghost use Rattle.load_model.specs.VersionFlaws.{version_flaw};
 ghost use Rattle.sym_tables.specs.ReadSymbols.{IsSymsOf};
 ghost use Rattle.version_tables.specs.VersionLists.{IsVersionsOf};
 
+use crate::entries::check_texts;
 use crate::faults::FaceFault;
+use crate::interp::check_interp;
+use crate::versions::check_files;
 use byte_view::Flaw;
+use byte_view::constants::{DT_NEEDED, DT_RPATH, DT_RUNPATH, DT_SONAME};
 use dyn_table::{Dyn, DynFault};
 use elf_headers::{Elf, ElfFault};
 use std::alloc::Global;
 use sym_tables::{SymFault, Syms};
 use version_tables::{VersionFault, Versions};
 
+/// The parts of a file that has no flaw.
+#[derive(Drop)]
+pub(crate) struct Parts {
+    pub(crate) elf: Elf,
+    pub(crate) table: Dyn,
+    pub(crate) syms: Syms,
+    pub(crate) versions: Versions,
+}
+
+impl Parts {
+    /// Reads all parts and the names, or answers the first flaw of the file.
+    #[tactic(auto, unfolding(load_model::specs::Faces::first_flaw))]
+    pub(crate) fn read(alloc: Global, bytes: &[u8]) -> Result<Parts, FaceFault>
+        ensures flaw { TellsBy flaw_of result (first_flaw bytes.now) }
+        ensures parts { IfOk result (λ parts. ArePartsOf parts bytes.now) }
+    {
+        let elf = read_headers(alloc, bytes)?;
+        let table = read_table(alloc, &elf, bytes)?;
+        let syms = read_symbols(alloc, &elf, &table, bytes)?;
+        let versions = read_versions(alloc, &elf, &table, syms.count(), bytes)?;
+        match check_names(&elf, &table, &versions, bytes) {
+            Ok(()) => Ok(Parts {
+                elf,
+                table,
+                syms,
+                versions,
+            }),
+            Err(fault) => Err(fault),
+        }
+    }
+}
+
 /// The headers, or their first flaw.
-pub(crate) fn read_headers(alloc: Global, bytes: &[u8]) -> Result<Elf, FaceFault>
+fn read_headers(alloc: Global, bytes: &[u8]) -> Result<Elf, FaceFault>
     ensures flaw { TellsBy flaw_of result (header_flaw bytes.now) }
     ensures read { IfOk result (λ elf. IsReadFrom elf bytes.now) }
 {
@@ -33,7 +71,7 @@ pub(crate) fn read_headers(alloc: Global, bytes: &[u8]) -> Result<Elf, FaceFault
 }
 
 /// The dynamic table, or its first flaw.
-pub(crate) fn read_table(alloc: Global, elf: &Elf, bytes: &[u8]) -> Result<Dyn, FaceFault>
+fn read_table(alloc: Global, elf: &Elf, bytes: &[u8]) -> Result<Dyn, FaceFault>
     requires { IsReadFrom elf.now bytes.now }
     ensures flaw { TellsBy flaw_of result (dynamic_flaw bytes.now) }
     ensures read { IfOk result (λ table. IsTableOf table bytes.now) }
@@ -46,12 +84,7 @@ pub(crate) fn read_table(alloc: Global, elf: &Elf, bytes: &[u8]) -> Result<Dyn, 
 }
 
 /// The symbols, or their first flaw.
-pub(crate) fn read_symbols(
-    alloc: Global,
-    elf: &Elf,
-    table: &Dyn,
-    bytes: &[u8],
-) -> Result<Syms, FaceFault>
+fn read_symbols(alloc: Global, elf: &Elf, table: &Dyn, bytes: &[u8]) -> Result<Syms, FaceFault>
     requires headers { IsReadFrom elf.now bytes.now }
     requires table { IsTableOf table.now bytes.now }
     ensures flaw { TellsBy flaw_of result (symbol_flaw bytes.now) }
@@ -65,7 +98,7 @@ pub(crate) fn read_symbols(
 }
 
 /// The versions of so many symbols, or their first flaw.
-pub(crate) fn read_versions(
+fn read_versions(
     alloc: Global,
     elf: &Elf,
     table: &Dyn,
@@ -83,4 +116,20 @@ pub(crate) fn read_versions(
         Err(VersionFault::Flawed(flaw)) => Err(FaceFault::Flawed(flaw)),
         Err(VersionFault::NoMemory) => Err(FaceFault::NoMemory),
     }
+}
+
+/// Are the names all UTF-8 by which a loader looks for files?
+#[tactic(auto, unfolding(load_model::specs::Faces::name_flaw))]
+fn check_names(elf: &Elf, table: &Dyn, versions: &Versions, bytes: &[u8]) -> Result<(), FaceFault>
+    requires headers { IsReadFrom elf.now bytes.now }
+    requires table { IsTableOf table.now bytes.now }
+    requires versions { IsVersionsOf versions.now (symbol_count bytes.now) bytes.now }
+    ensures { TellsBy flaw_of result (name_flaw bytes.now) }
+{
+    check_texts(table, bytes, DT_NEEDED)?;
+    check_texts(table, bytes, DT_SONAME)?;
+    check_texts(table, bytes, DT_RPATH)?;
+    check_texts(table, bytes, DT_RUNPATH)?;
+    check_files(table, bytes, versions.file_words())?;
+    check_interp(elf, bytes)
 }

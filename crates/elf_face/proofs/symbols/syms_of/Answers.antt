@@ -1,5 +1,5 @@
 -- what was seen is the symbols, the versions and the marks, side by side
-use Rattle.std.proofs.Common.{◌≡◌, ◌∙◌, rules, arith, length}
+use Rattle.std.proofs.Common.{◌≡◌, ◌∙◌, rules, length}
 use Rattle.std.specs.Vec.{vec_len}
 use Rattle.std.proofs.lemmas.Iterator.{YieldsList-from_slice, YieldsList-from_zip}
 use Rattle.std.proofs.lemmas.Iterator.Adapters.{YieldsList-from_vec}
