@@ -4,6 +4,7 @@ ghost use Rattle.std.specs.Prelude.{◌≡◌, ◌<◌, ◌^◌, IfOk, length};
 ghost use Rattle.answers.specs.Answers.{TellsBy};
 ghost use Rattle.elf_face.specs.Faults.{flaw_of};
 ghost use Rattle.elf_face.specs.ReadParts.{ArePartsOf};
+ghost use Rattle.hash_lookup.specs.Listed.{file_table};
 ghost use Rattle.load_model.specs.Bindings.{offered_by};
 ghost use Rattle.load_model.specs.Faces.{face_of, first_flaw};
 
@@ -29,6 +30,7 @@ pub fn read_loaded(alloc: Global, bytes: &[u8]) -> Result<Loaded, FaceFault>
     ensures flaw { TellsBy flaw_of result (first_flaw bytes.now) }
     ensures face { IfOk result (λ loaded. loaded.face ≡ face_of bytes.now) }
     ensures tables { IfOk result (λ loaded. loaded.tables.offered ≡ offered_by loaded.face) }
+    ensures table { IfOk result (λ loaded. loaded.tables.table ≡ file_table bytes.now) }
     ensures few_symbols { IfOk result (λ loaded. length loaded.face.syms < 2 ^ 32) }
     ensures few_asks { IfOk result (λ loaded. length loaded.face.asks < 2 ^ 32) }
 {
@@ -45,6 +47,7 @@ fn make_loaded(alloc: Global, parts: Parts, bytes: &[u8]) -> Result<Loaded, NoMe
     requires { ArePartsOf parts bytes.now }
     ensures face { IfOk result (λ loaded. loaded.face ≡ face_of bytes.now) }
     ensures tables { IfOk result (λ loaded. loaded.tables.offered ≡ offered_by loaded.face) }
+    ensures table { IfOk result (λ loaded. loaded.tables.table ≡ file_table bytes.now) }
     ensures few_symbols { IfOk result (λ loaded. length loaded.face.syms < 2 ^ 32) }
     ensures few_asks { IfOk result (λ loaded. length loaded.face.asks < 2 ^ 32) }
 {
@@ -57,7 +60,8 @@ fn make_loaded(alloc: Global, parts: Parts, bytes: &[u8]) -> Result<Loaded, NoMe
 #[tactic(auto, using(crate::proofs::Numbered::same_offer, crate::proofs::Numbered::many_versions, crate::proofs::Numbered::many_hidden))]
 fn make_tables(alloc: Global, parts: &Parts, bytes: &[u8]) -> Result<Tables, NoMemory>
     requires { ArePartsOf parts.now bytes.now }
-    ensures { IfOk result (λ tables. tables.offered ≡ offered_by (face_of bytes.now)) }
+    ensures offered { IfOk result (λ tables. tables.offered ≡ offered_by (face_of bytes.now)) }
+    ensures table { IfOk result (λ tables. tables.table ≡ file_table bytes.now) }
 {
     Tables::of(
         alloc,

@@ -5,7 +5,7 @@ use Rattle.std.specs.List.{zip}
 use Rattle.std.proofs.lemmas.Bool.Decides.{nat_tests}
 use Rattle.byte_view.specs.Dynamic.{dynamic_entries, string_at}
 use Rattle.byte_view.specs.Headers.{headers}
-use Rattle.hash_lookup.specs.Listed.{ListsAll, sym_with, syms_with, table_from, table_lists}
+use Rattle.hash_lookup.specs.Listed.{ListsAll, file_table, sym_with, syms_with, table_from, table_lists}
 use Rattle.load_model.specs.Faces.{sym_of}
 use Rattle.load_model.specs.GnuTable.{GnuTable, gnu_lists}
 use Rattle.load_model.specs.Hashes.{gnu_hash, sysv_hash}
@@ -88,3 +88,7 @@ lists_all file s versions hidden is = record { lists = λ i x z at may. go i x z
         let listed : is_listed (sysv_in file (headers file) (dynamic_entries file)) (gnu_in file (headers file) (dynamic_entries file)) (name_in (file_strings file) m.raw) i ≡ true = each_listed file i m.raw is.unflawed there offered in
         let here : is_listed s.sysv s.gnu (name_in (file_strings file) m.raw) i ≡ true = rw (is.sysv, is.gnu) listed in
         rw (m.same, ← named file m.raw) (kept_lists s.gnu s.sysv (name_in (file_strings file) m.raw) i here)
+
+pub same_table : (file : List ℕ) (s : Symbols) → IsSymsOf s file → table_from s.gnu s.sysv ≡ file_table file
+unfolding file_table
+same_table file s is = rw (is.gnu, is.sysv) refl

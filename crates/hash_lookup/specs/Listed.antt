@@ -2,6 +2,8 @@
 -- may bind to
 use Rattle.std.specs.Prelude.{ℕ, ◌≡◌, ◌≢◌, Bool, true, false, List, [], Option, Some, None, map, slice_get}
 use Rattle.std.specs.List.{zip}
+use Rattle.byte_view.specs.Dynamic.{dynamic_entries}
+use Rattle.byte_view.specs.Headers.{headers}
 use Rattle.hash_lookup.specs.Chains.{gnu_chain, gnu_matches, sysv_chain}
 use Rattle.hash_lookup.specs.declared.tables.Table.{Table}
 use Rattle.hash_lookup.specs.declared.tables.Table.TheVariants.{Gnu, Sysv, Absent}
@@ -9,6 +11,7 @@ use Rattle.load_model.specs.Faces.{sym_of}
 use Rattle.load_model.specs.GnuTable.{GnuTable, gnu_lists}
 use Rattle.load_model.specs.Hashes.{gnu_hash, sysv_hash}
 use Rattle.load_model.specs.Offers.{Offered}
+use Rattle.load_model.specs.SymbolFlaws.{gnu_in, sysv_in}
 use Rattle.load_model.specs.SymbolWords.{is_bindable}
 use Rattle.load_model.specs.SysvTable.{SysvTable, sysv_lists}
 use Rattle.load_model.specs.declared.symbols.RawSym.{RawSym}
@@ -38,6 +41,12 @@ abbrev pub table_from : Option GnuTable → Option SysvTable → Table
 table_from (Some gnu) sysv = Gnu gnu
 table_from None (Some sysv) = Sysv sysv
 table_from None None = Absent
+
+-- the table by which names are looked up in a file
+unfoldable pub file_table : List ℕ → Table
+file_table file =
+    table_from (gnu_in file (headers file) (dynamic_entries file))
+    (sysv_in file (headers file) (dynamic_entries file))
 
 -- it lists each symbol that other objects may bind to; the symbol of index 0 is none
 pub record ListsAll (table : Table) (syms : List Sym) : Type 0 where

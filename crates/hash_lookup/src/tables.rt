@@ -7,7 +7,7 @@
 ghost use Rattle.std.specs.Prelude.{◌≡◌, ◌≤◌, ◌<◌, ◌+◌, ◌^◌, IfOk, length};
 ghost use Rattle.std.specs.Option.{option_copied};
 ghost use Rattle.hash_lookup.specs.Finding.{found_in, nothing, wish_of};
-ghost use Rattle.hash_lookup.specs.Listed.{chain_of, matches_of, syms_with, table_from};
+ghost use Rattle.hash_lookup.specs.Listed.{chain_of, file_table, matches_of, syms_with, table_from};
 ghost use Rattle.load_model.specs.Offers.{offer_of};
 ghost use Rattle.sym_tables.specs.ReadSymbols.{IsSymsOf};
 
@@ -48,6 +48,7 @@ impl Model for Tables {
 impl Tables {
     /// The tables of the file that the symbols were read from, with the version of each symbol and
     /// whether it is hidden. Takes time in proportion to symbols, names and tables.
+    #[tactic(auto, using(crate::proofs::SymbolLemmas::same_table))]
     pub fn of(
         alloc: Global,
         syms: &Syms,
@@ -63,6 +64,7 @@ impl Tables {
           syms = syms_with bytes.now syms.now.raw versions.now hidden.now;
           versioned = versioned;
         }) }
+        ensures table { IfOk result (λ tables. tables.table ≡ file_table bytes.now) }
         ensures few { IfOk result (λ tables. length tables.offered.syms < 2 ^ 32) }
     {
         Ok(Tables {
