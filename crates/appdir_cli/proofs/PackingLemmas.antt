@@ -11,7 +11,8 @@ use Rattle.listed_runs.proofs.FittingLemmas.{listed_in_run}
 use Rattle.tree_opener.proofs.OpeningLemmas.{kind_absent}
 use Rattle.listed_runs.specs.Fitting.{is_all_listed}
 use Rattle.appdir_cli.proofs.VersionLemmas.{met_or_refused}
-use Rattle.appdir_cli.specs.Packing.{AreVersionsMet, CountsListed, HasBytes, HasList, IsCounted, IsListed, IsPackage, LoadsAs, Packs, package_with}
+use Rattle.appdir_cli.specs.Packing.{AreVersionsMet, CountsListed, HasBytes, HasList, IsCounted, IsListed, IsPackage, Packs, package_with}
+use Rattle.appdir_cli.specs.Loading.{LoadsAs}
 use Rattle.appdir_cli.specs.Settings.{default_setting}
 use Rattle.appdir_cli.specs.Steps.{IsStepAnswer}
 use Rattle.deliveries.specs.declared.answer.Answer.{Answer}
@@ -34,7 +35,7 @@ packed_or_refused world command whole NotBuilt packed refused =
 packed_or_refused world command whole (NotEmpty place) packed refused = refused
 
 -- a program that is not loaded, or not listed, ends the command
-pub load_stops : (before after : View World) (command : Quick) (stop : Stop) → IsStepAnswer {A = LoadedProgram} before after (λ world outcome. LoadsAs world command.program outcome) (Err stop) → IsStepAnswer {A = ℕ} before after (λ world outcome. CountsListed world command outcome) (Err stop)
+pub load_stops : (before after : View World) (command : Quick) (stop : Stop) → IsStepAnswer {A = LoadedProgram} before after (λ world outcome. LoadsAs default_setting world command.program outcome) (Err stop) → IsStepAnswer {A = ℕ} before after (λ world outcome. CountsListed world command outcome) (Err stop)
 load_stops before after command (Refused (Load refusal)) h = h
 load_stops before after command (Refused NotBuilt) h = λ world told. absurd (h world told)
 load_stops before after command (Refused (NotEmpty place)) h = h
@@ -48,16 +49,16 @@ count_stops before after command (Refused (NotEmpty place)) h = h
 count_stops before after command Read h = h
 count_stops before after command NoMemory h = h
 
-abbrev has_list : (world : World) (command : Quick) (loaded : LoadedProgram) → LoadsAs world command.program (Ok loaded) → HasList world command.program
+abbrev has_list : (world : World) (command : Quick) (loaded : LoadedProgram) → LoadsAs default_setting world command.program (Ok loaded) → HasList world command.program
 has_list world command loaded loads = record { loaded = loads.loads.loaded; ends = loads.loads.ends; list = loads.loads.list }
 
-abbrev versions_met : (world : World) (command : Quick) (loaded : LoadedProgram) (loads : LoadsAs world command.program (Ok loaded)) → AreVersionsMet loads.loads.loaded loads.loads.ends
+abbrev versions_met : (world : World) (command : Quick) (loaded : LoadedProgram) (loads : LoadsAs default_setting world command.program (Ok loaded)) → AreVersionsMet loads.loads.loaded loads.loads.ends
 versions_met world command loaded loads = record { faces = loaded.faces; run = loaded.run; run_is = loads.loads.run_is; met = loads.met }
 
 -- what is counted of the loaded program is counted of the world's
-pub counted : (before after : View World) (command : Quick) (loaded : LoadedProgram) (result : Result ℕ Stop) → WhereTold before.told (λ world. LoadsAs world command.program (Ok loaded)) → IsCounted command.names loaded result → IsStepAnswer {A = ℕ} before after (λ world outcome. CountsListed world command outcome) result
+pub counted : (before after : View World) (command : Quick) (loaded : LoadedProgram) (result : Result ℕ Stop) → WhereTold before.told (λ world. LoadsAs default_setting world command.program (Ok loaded)) → IsCounted command.names loaded result → IsStepAnswer {A = ℕ} before after (λ world outcome. CountsListed world command outcome) result
 counted before after command loaded (Ok count) there h = λ world told.
-    let loads : LoadsAs world command.program (Ok loaded) = there world told in
+    let loads : LoadsAs default_setting world command.program (Ok loaded) = there world told in
     record {
       loads = has_list world command loaded loads;
       met = versions_met world command loaded loads;
@@ -65,7 +66,7 @@ counted before after command loaded (Ok count) there h = λ world told.
       count_is = h.1 ∙ loads.loads.run_is.count;
     }
 counted before after command loaded (Err (Refused NotBuilt)) there h = λ world told.
-    let loads : LoadsAs world command.program (Ok loaded) = there world told in
+    let loads : LoadsAs default_setting world command.program (Ok loaded) = there world told in
     record {
       loads = has_list world command loaded loads;
       met = versions_met world command loaded loads;

@@ -4,7 +4,7 @@ use Rattle.std.specs.Prelude.{ℕ, ◌-◌, ◌≡◌, List, [], ◌∷◌, true
 use Rattle.load_model.specs.Faces.{face_or_flaw}
 use Rattle.load_model.specs.LoadList.{Loaded}
 use Rattle.load_model.specs.Loads.{IsLoadList}
-use Rattle.load_model.specs.Replays.{IsReplayStop, Loads}
+use Rattle.load_model.specs.Replays.{IsReplayStop}
 use Rattle.load_model.specs.Runs.{IsRunOf}
 use Rattle.load_model.specs.VersionCheck.{first_unmet}
 use Rattle.load_model.specs.World.{World, file_at}
@@ -25,18 +25,6 @@ use Rattle.appdir_cli.specs.declared.loading.LoadedProgram.{LoadedProgram}
 use Rattle.refusals.specs.declared.refusal.Refusal.{Refusal}
 use Rattle.refusals.specs.declared.refusal.Refusal.TheVariants.{Load, NotBuilt, NotEmpty}
 use Rattle.appdir_cli.specs.declared.words.Quick.{Quick}
-
--- The program's load list over its faces, whose versions are met, or why it has none.
-pub record IsLoaded (world : World) (path : List ℕ) (loaded : LoadedProgram) : Type 0 where
-  pub loads : Loads face_or_flaw default_setting world loaded.faces path [] loaded.run
-  pub met : first_unmet loaded.faces loaded.run ≡ None
-
-abbrev pub LoadsAs : World → List ℕ → Result LoadedProgram Refusal → Type 0
-LoadsAs world path (Ok loaded) = IsLoaded world path loaded
-LoadsAs world path (Err (Load refusal)) =
-    IsReplayStop face_or_flaw default_setting world path [] refusal
-LoadsAs world path (Err NotBuilt) = ⊥
-LoadsAs world path (Err (NotEmpty place)) = ⊥
 
 -- The program's load list in the world.
 pub record HasList (world : World) (path : List ℕ) : Type 0 where

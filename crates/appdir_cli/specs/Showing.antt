@@ -2,6 +2,7 @@
 use Rattle.std.specs.Prelude.{ℕ, List, [], ◌∷◌, ◌≡◌, Result, Ok, Err}
 use Rattle.bind_report.specs.Places.{no_places}
 use Rattle.bind_report.specs.Report.{report_text}
+use Rattle.load_model.specs.Bindings.{all_binds}
 use Rattle.load_model.specs.Faces.{face_or_flaw}
 use Rattle.load_model.specs.Replays.{IsReplay, IsReplayStop}
 use Rattle.load_model.specs.World.{World}
@@ -15,28 +16,23 @@ use Rattle.deliveries.specs.declared.answer.Answer.{Answer}
 use Rattle.deliveries.specs.declared.answer.Answer.TheVariants.{Says, Packs as PacksFiles}
 use Rattle.appdir_cli.specs.declared.stops.Stop.{Stop}
 use Rattle.appdir_cli.specs.declared.stops.Stop.TheVariants.{Refused, Read, NoMemory}
-use Rattle.appdir_cli.specs.declared.showing.ReplayedProgram.{ReplayedProgram}
+use Rattle.appdir_cli.specs.declared.loading.LoadedProgram.{LoadedProgram}
 use Rattle.appdir_cli.specs.declared.words.Show.{Show}
-
--- The program's run with its bindings, over its faces, or why it has none.
-abbrev pub ReplaysAs : Setting → World → List ℕ → Result ReplayedProgram Refusal → Type 0
-ReplaysAs setting world path (Ok replayed) =
-    IsReplay face_or_flaw setting world replayed.faces path [] replayed.replay
-ReplaysAs setting world path (Err (Load refusal)) =
-    IsReplayStop face_or_flaw setting world path [] refusal
-ReplaysAs setting world path (Err NotBuilt) = ⊥
-ReplaysAs setting world path (Err (NotEmpty place)) = ⊥
 
 unfoldable pub shown_text : List Face → Replay → List ℕ
 shown_text faces replay = report_text (replay ∷ []) faces (no_places replay.run.objs ∷ [])
 
--- The answer that says a run, up to want of memory.
-abbrev pub IsSaidOf : ReplayedProgram → Result Answer Stop → Type 0
-IsSaidOf replayed (Ok (Says text)) = text ≡ shown_text replayed.faces replayed.replay
-IsSaidOf replayed (Ok (PacksFiles whole)) = ⊥
-IsSaidOf replayed (Err (Refused refusal)) = ⊥
-IsSaidOf replayed (Err Read) = ⊥
-IsSaidOf replayed (Err NoMemory) = Unit {0}
+-- What a program loads, with the bindings of all its references.
+abbrev pub replay_of : LoadedProgram → Replay
+replay_of loaded = record { run = loaded.run; binds = all_binds loaded.faces loaded.run }
+
+-- The answer that says what a program loads and binds, up to want of memory.
+abbrev pub IsSaidOf : LoadedProgram → Result Answer Stop → Type 0
+IsSaidOf loaded (Ok (Says text)) = text ≡ shown_text loaded.faces (replay_of loaded)
+IsSaidOf loaded (Ok (PacksFiles whole)) = ⊥
+IsSaidOf loaded (Err (Refused refusal)) = ⊥
+IsSaidOf loaded (Err Read) = ⊥
+IsSaidOf loaded (Err NoMemory) = Unit {0}
 
 -- The text of the program's run, whose versions are met.
 pub record IsShown (setting : Setting) (world : World) (path text : List ℕ) : Type 0 where

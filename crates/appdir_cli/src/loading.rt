@@ -1,16 +1,14 @@
-//! The load list of a program, over the tree. Definitions: `specs/Packing.antt` (`LoadsAs`),
-//! `specs/Loading.antt` and `specs/Stops.antt`.
+//! The load list of a program, over the tree. Definitions: `specs/Loading.antt` (`LoadsAs`) and
+//! `specs/Stops.antt`.
 
-ghost use Rattle.std.specs.Prelude.{◌≡◌};
+ghost use Rattle.std.specs.Prelude.{◌≡◌, IfOk};
+ghost use Rattle.load_model.specs.Runs.{IsRunOver};
 ghost use Rattle.ports.specs.View.{OnlyReads};
-ghost use Rattle.appdir_cli.specs.Packing.{LoadsAs};
-ghost use Rattle.appdir_cli.specs.Settings.{default_setting};
-ghost use Rattle.appdir_cli.specs.Loading.{IsTreeLoaded};
+ghost use Rattle.appdir_cli.specs.Loading.{IsTreeLoaded, LoadsAs};
 ghost use Rattle.byte_view.specs.declared.constants.TheConstants.{EM_X86_64 as THE_MACHINE};
 ghost use Rattle.appdir_cli.specs.Steps.{IsStepAnswer};
 ghost use Rattle.appdir_cli.specs.Stops.{stop_of_load, stop_of_open, stop_of_replay, stop_of_search};
 
-use crate::settings::{default_dirs, setting_of};
 use crate::stops::Stop;
 use load_model::{FaceTable, LoadRefusal, OpenFault, Run, Setting};
 use load_order::LoadStop;
@@ -29,30 +27,17 @@ pub struct LoadedProgram {
     pub faces: FaceTable,
 }
 
-/// Loads a program as the loader of the default setting does.
+/// Loads a program as the loader of this setting does.
 pub fn load_program<T: Tree>(
-    alloc: Global,
-    tree: &mut T,
-    program: &Abs,
-) -> Result<LoadedProgram, Stop>
-    ensures answer { IsStepAnswer (T.seen tree.old) (T.seen tree.new)
-        (λ world outcome. LoadsAs world program.now outcome) result }
-    ensures only_reads { OnlyReads (T.seen tree.old) (T.seen tree.new) }
-{
-    let setting = setting_of(default_dirs(alloc)?);
-    load_with(alloc, tree, &setting, program)
-}
-
-/// Loads a program as the loader of this setting does, which is the default one.
-fn load_with<T: Tree>(
     alloc: Global,
     tree: &mut T,
     setting: &Setting,
     program: &Abs,
 ) -> Result<LoadedProgram, Stop>
-    requires { setting.now ≡ default_setting }
+    requires { setting.now.machine ≡ THE_MACHINE }
     ensures answer { IsStepAnswer (T.seen tree.old) (T.seen tree.new)
-        (λ world outcome. LoadsAs world program.now outcome) result }
+        (λ world outcome. LoadsAs setting.now world program.now outcome) result }
+    ensures over { IfOk result (λ loaded. IsRunOver loaded.faces loaded.run) }
     ensures only_reads { OnlyReads (T.seen tree.old) (T.seen tree.new) }
 {
     let mut opener = FileOpener {

@@ -4,14 +4,16 @@
 ghost use Rattle.std.specs.Prelude.{◌≡◌, ◌-◌, IfOk};
 ghost use Rattle.ports.specs.View.{OnlyReads};
 ghost use Rattle.appdir_cli.specs.Packing.{CountsListed, HasBytes, IsCounted, Packs, app_run_of, package_with};
+ghost use Rattle.appdir_cli.specs.Settings.{default_setting};
 ghost use Rattle.appdir_cli.specs.Steps.{IsStepAnswer};
 
 use crate::loading::{LoadedProgram, load_program};
+use crate::settings::{default_dirs, setting_of};
 use crate::stops::Stop;
 use crate::words::Quick;
 use deliveries::{Answer, Whole};
 use listed_runs::is_all_listed;
-use load_model::{List, LoadRefusal, Text};
+use load_model::{List, LoadRefusal, Setting, Text};
 use path_text::{Abs, NoMemory, Rel};
 use ports::{Found, MemFile, ProbeStop, Tree};
 use refusals::{Refusal, done_text};
@@ -44,7 +46,25 @@ fn count_listed<T: Tree>(alloc: Global, tree: &mut T, command: &Quick) -> Result
         (λ world outcome. CountsListed world command.now outcome) result }
     ensures only_reads { OnlyReads (T.seen tree.old) (T.seen tree.new) }
 {
-    match load_program(alloc, tree, &command.program) {
+    match default_dirs(alloc) {
+        Ok(dirs) => count_in(alloc, tree, &setting_of(dirs), command),
+        Err(_) => Err(Stop::NoMemory),
+    }
+}
+
+/// The same as the loader of this setting has it, which is the default one.
+fn count_in<T: Tree>(
+    alloc: Global,
+    tree: &mut T,
+    setting: &Setting,
+    command: &Quick,
+) -> Result<usize, Stop>
+    requires { setting.now ≡ default_setting }
+    ensures answer { IsStepAnswer (T.seen tree.old) (T.seen tree.new)
+        (λ world outcome. CountsListed world command.now outcome) result }
+    ensures only_reads { OnlyReads (T.seen tree.old) (T.seen tree.new) }
+{
+    match load_program(alloc, tree, setting, &command.program) {
         Ok(loaded) => count_of(alloc, command, &loaded),
         Err(stop) => Err(stop),
     }

@@ -4,16 +4,17 @@
 //! `changes` are made in them, each of `hex` at the place `at`.
 
 use crate::shape::{library_shape, shape_of};
+use crate::tables::HashTables;
 use case_rows::{Fault, Row, decoded};
 use elf_make::{Shape, make_object};
 use load_model::Name;
 use std::alloc::Global;
 use toml::Value;
 
-/// The bytes that a table says.
-pub fn bytes_of(alloc: Global, table: &Value) -> Result<Vec<u8>, Fault> {
+/// The bytes that a table says; an object of a shape with these hash tables.
+pub fn bytes_of(alloc: Global, table: &Value, tables: HashTables) -> Result<Vec<u8>, Fault> {
     let row = Row::of(table, &["hex", "shape", "cut", "changes"])?;
-    let bytes = whole(alloc, &row)?;
+    let bytes = whole(alloc, &row, tables)?;
     altered(
         alloc,
         bytes,
@@ -36,9 +37,11 @@ pub fn altered(
     Ok(bytes)
 }
 
-/// The object of a shape.
-pub fn object_of(alloc: Global, shape: &Value) -> Result<Vec<u8>, Fault> {
-    made(alloc, &shape_of(alloc, shape)?)
+/// The object of a shape, with these hash tables.
+pub fn object_of(alloc: Global, shape: &Value, tables: HashTables) -> Result<Vec<u8>, Fault> {
+    let mut shape = shape_of(alloc, shape)?;
+    tables.set(&mut shape);
+    made(alloc, &shape)
 }
 
 /// A library that needs this one, or none.
@@ -66,10 +69,10 @@ fn made(alloc: Global, shape: &Shape) -> Result<Vec<u8>, Fault> {
 }
 
 /// The bytes before they are cut and changed.
-fn whole(alloc: Global, row: &Row<'_>) -> Result<Vec<u8>, Fault> {
+fn whole(alloc: Global, row: &Row<'_>, tables: HashTables) -> Result<Vec<u8>, Fault> {
     match row.text_if_any("hex")? {
         Some(digits) => decoded(alloc, digits),
-        None => object_of(alloc, row.value("shape")?),
+        None => object_of(alloc, row.value("shape")?, tables),
     }
 }
 

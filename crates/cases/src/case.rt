@@ -1,5 +1,6 @@
 //! The document: worlds, cases, and cases of which each call fails in turn.
 
+use case_files::HashTables;
 use case_rows::{Fault, Row};
 use toml::{Table, Value};
 
@@ -25,8 +26,17 @@ impl<'a> Document<'a> {
 }
 
 /// The names of a case's fields.
-const FIELDS: [&str; 9] = [
-    "name", "words", "world", "absent", "files", "chain", "finished", "failing", "wants",
+const FIELDS: [&str; 10] = [
+    "name",
+    "words",
+    "world",
+    "absent",
+    "files",
+    "each_table",
+    "chain",
+    "finished",
+    "failing",
+    "wants",
 ];
 
 /// A call, what is there, and how it is to end.
@@ -37,6 +47,10 @@ pub struct Case<'a> {
     pub shared: &'a [Value],
     pub absent: &'a [Value],
     pub files: &'a [Value],
+    /// Whether it is run once for each way in which objects have hash tables, and the tables of
+    /// this run.
+    pub each_table: bool,
+    pub tables: HashTables,
     /// How many libraries there are in a chain, `/usr/local/lib/lib0.so` and on, of which each
     /// needs the next. Their numbers are their identities.
     pub chain: u64,
@@ -54,6 +68,8 @@ impl<'a> Case<'a> {
             shared: files_of_world(worlds, row.text_if_any("world")?)?,
             absent: row.list("absent")?,
             files: row.list("files")?,
+            each_table: row.flag("each_table")?,
+            tables: HashTables::AsShaped,
             chain: row.number_if_any("chain")?.unwrap_or(0),
             finished: row.list("finished")?,
             failing: row.list("failing")?,

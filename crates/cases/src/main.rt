@@ -9,6 +9,7 @@ mod turns;
 mod wants;
 
 use case::{Case, Document, METHODS, name_of};
+use case_files::EACH_WAY;
 use case_rows::Fault;
 use ports::MemFile;
 use std::alloc::Global;
@@ -53,11 +54,25 @@ fn run_case(rt: &HostRuntime, worlds: &[Value], case: &Value) -> io::Result<()> 
     }
 }
 
-/// How a case ends that wants to end otherwise.
+/// How a case ends that wants to end otherwise, with the first hash tables with which it does.
 fn differing(alloc: Global, worlds: &[Value], case: &Value) -> Result<Option<Ending>, Fault> {
-    let case = Case::of(worlds, case)?;
-    let ending = ending_of(alloc, &case, None)?;
-    if is_as_wanted(alloc, &case, &ending)? {
+    let mut case = Case::of(worlds, case)?;
+    if !case.each_table {
+        return differing_with(alloc, &case);
+    }
+    for tables in EACH_WAY {
+        case.tables = tables;
+        if let Some(ending) = differing_with(alloc, &case)? {
+            return Ok(Some(ending));
+        }
+    }
+    Ok(None)
+}
+
+/// The same with the hash tables of a case.
+fn differing_with(alloc: Global, case: &Case<'_>) -> Result<Option<Ending>, Fault> {
+    let ending = ending_of(alloc, case, None)?;
+    if is_as_wanted(alloc, case, &ending)? {
         Ok(None)
     } else {
         Ok(Some(ending))

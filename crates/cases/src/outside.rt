@@ -84,23 +84,24 @@ fn file_at<'a>(files: &'a [Value], path: &str) -> Result<Option<File<'a>>, Fault
 
 fn tree_of(alloc: Global, case: &Case<'_>) -> Result<MemTree, Fault> {
     let mut tree = MemTree::new(alloc)?;
-    add_files(alloc, &mut tree, case.shared, case.absent)?;
-    add_files(alloc, &mut tree, case.files, &[])?;
+    add_files(alloc, &mut tree, case, case.shared, case.absent)?;
+    add_files(alloc, &mut tree, case, case.files, &[])?;
     add_chain(alloc, &mut tree, case.chain)?;
     Ok(tree)
 }
 
-/// Adds files, but for those at the paths `absent`.
+/// Adds files of a case, but for those at the paths `absent`.
 fn add_files(
     alloc: Global,
     tree: &mut MemTree,
+    case: &Case<'_>,
     files: &[Value],
     absent: &[Value],
 ) -> Result<(), Fault> {
     for file in files {
         let file = File::of(file)?;
         if !are_texts_with(absent, file.path)? {
-            let bytes = bytes_of(alloc, file.bytes)?;
+            let bytes = bytes_of(alloc, file.bytes, case.tables)?;
             add(alloc, tree, file.path, file.id, bytes.as_slice())?;
         }
     }

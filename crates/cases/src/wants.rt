@@ -106,7 +106,9 @@ fn is_copy(
     path: Option<&str>,
 ) -> Result<bool, Fault> {
     match path {
-        Some(path) => Ok(bytes == bytes_of(alloc, source(case, path)?.bytes)?.as_slice()),
+        Some(path) => Ok(
+            bytes == bytes_of(alloc, source(case, path)?.bytes, case.tables)?.as_slice(),
+        ),
         None => Ok(true),
     }
 }

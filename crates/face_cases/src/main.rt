@@ -6,7 +6,7 @@ mod document;
 mod faces;
 mod objects;
 
-use case_files::{altered, bytes_of, object_of};
+use case_files::{HashTables, altered, bytes_of, object_of};
 use case_rows::Fault;
 use document::{ChangedRow, Document, FaceRow, ObjectRow, Wanted, name_of};
 use faces::{told_text, wanted_text};
@@ -60,7 +60,7 @@ fn run_face(rt: &HostRuntime, value: &Value) -> io::Result<usize> {
 }
 
 fn run_row(rt: &HostRuntime, name: &str, row: &FaceRow<'_>) -> io::Result<usize> {
-    let bytes = match bytes_of(rt.alloc(), row.file) {
+    let bytes = match bytes_of(rt.alloc(), row.file, HashTables::AsShaped) {
         Ok(bytes) => bytes,
         Err(fault) => {
             print_differing(rt, name, Err(fault))?;
@@ -97,7 +97,7 @@ fn differing_change(alloc: Global, bytes: &[u8], value: &Value) -> Result<Option
 /// The digits of an object of which other bytes are wanted.
 fn differing_object(alloc: Global, value: &Value) -> Result<Option<Vec<u8>>, Fault> {
     let row = ObjectRow::of(value)?;
-    let object = object_of(alloc, row.shape)?;
+    let object = object_of(alloc, row.shape, HashTables::AsShaped)?;
     if is_as_wanted(alloc, object.as_slice(), &row)? {
         Ok(None)
     } else {
