@@ -10,7 +10,7 @@ ghost use Rattle.appdir_cli.specs.Steps.{IsStepAnswer};
 ghost use Rattle.appdir_cli.specs.Stops.{stop_of_load, stop_of_open, stop_of_replay, stop_of_search};
 
 use crate::stops::Stop;
-use load_model::{FaceTable, LoadRefusal, OpenFault, Run, Setting};
+use load_model::{LoadRefusal, OpenFault, Run, Setting};
 use load_order::LoadStop;
 use loader_replay::{ReplayStop, load_checked};
 use path_text::Abs;
@@ -18,13 +18,13 @@ use ports::Tree;
 use refusals::Refusal;
 use search_paths::SearchStop;
 use std::alloc::Global;
-use tree_opener::FileOpener;
+use tree_opener::{FileOpener, LoadedFaces};
 
 /// A load list whose versions are met, over the faces of its objects.
 #[derive(Drop)]
 pub struct LoadedProgram {
     pub run: Run,
-    pub faces: FaceTable,
+    pub faces: LoadedFaces,
 }
 
 /// Loads a program as the loader of this setting does.
@@ -42,7 +42,7 @@ pub fn load_program<T: Tree>(
 {
     let mut opener = FileOpener {
         tree,
-        table: FaceTable::new(alloc),
+        table: LoadedFaces::new(alloc),
     };
     let loaded = load_over(alloc, &mut opener, setting, program);
     let FileOpener { tree: lent, table } = opener;

@@ -77,7 +77,7 @@ fn count_of(alloc: Global, command: &Quick, loaded: &LoadedProgram) -> Result<us
     match is_all_listed(
         alloc,
         command.names.as_slice(),
-        loaded.faces.as_slice(),
+        loaded.faces.faces(),
         &loaded.run,
     ) {
         Ok(true) => Ok(loaded.run.objs.as_slice().len()),

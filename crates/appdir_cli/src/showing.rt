@@ -70,15 +70,10 @@ fn text_of(alloc: Global, loaded: LoadedProgram) -> Result<Text, NoMemory>
     ensures { IfOk result (λ text. text ≡ shown_text loaded.faces (replay_of loaded)) }
 {
     let LoadedProgram { run, faces } = loaded;
-    let binds = binds_of(alloc, faces.as_slice(), faces.as_slice(), &run)?;
+    let binds = binds_of(alloc, faces.faces(), faces.tables(), &run)?;
     let replay = Replay { run, binds };
     let places = listed_places(alloc, replay.run.objs.as_slice())?;
-    report(
-        alloc,
-        std::slice::from_ref(&replay),
-        faces.as_slice(),
-        &places,
-    )
+    report(alloc, std::slice::from_ref(&replay), faces.faces(), &places)
 }
 
 /// The places of the objects of the one run.

@@ -1,13 +1,14 @@
-//! The opener of a loader over the tree: it reads each file whole, keeps its face, and lets the
-//! bytes go.
+//! The opener of a loader over the tree: it reads each file whole, keeps its face and hash tables,
+//! and lets the bytes go.
 
 ghost use Rattle.load_model.specs.Opening.{IsFew};
 ghost use Rattle.tree_opener.specs.Keeping.{IsKept};
 
+use crate::faces::{FaceWithTables, LoadedFaces};
 use crate::reading::{Seen, see};
 use crate::stops::ReadStop;
 use byte_view::constants::EM_X86_64;
-use load_model::{Face, FaceTable, Name, OpenFault, Opened, Opener};
+use load_model::{Face, Name, OpenFault, Opened, Opener};
 use path_text::Abs;
 use ports::{Found, ProbeStop, Tree};
 use std::alloc::Global;
@@ -16,7 +17,7 @@ use std::alloc::Global;
 #[derive(Drop)]
 pub struct FileOpener<'a, T: Tree> {
     pub tree: &'a mut T,
-    pub table: FaceTable,
+    pub table: LoadedFaces,
 }
 
 impl<T: Tree> Opener for FileOpener<'_, T> {
@@ -50,12 +51,12 @@ impl<T: Tree> Opener for FileOpener<'_, T> {
     }
 
     fn faces(&self) -> &[Face] {
-        self.table.as_slice()
+        self.table.faces()
     }
 }
 
 /// Keeps the face of an object with this identity.
-fn keep(table: &mut FaceTable, id: Name, face: Face) -> Result<Opened, OpenFault>
+fn keep(table: &mut LoadedFaces, id: Name, face: FaceWithTables) -> Result<Opened, OpenFault>
     requires { IsFew face }
     ensures kept { IsKept table.old table.new id face result }
 {

@@ -10,6 +10,7 @@ ghost use Rattle.ports.specs.Reading.{bytes_at};
 ghost use Rattle.ports.specs.View.{OnlyReads};
 ghost use Rattle.tree_opener.specs.Reading.{IsFewSeen, IsReadCause, seen_by, seen_in};
 
+use crate::faces::FaceWithTables;
 use crate::stops::ReadStop;
 use byte_view::constants::{
     E_MACHINE_AT, E_VERSION_AT, EI_CLASS, EI_DATA, ELFCLASS64, ELFDATA2LSB, ELFMAG, EM_X86_64,
@@ -17,8 +18,7 @@ use byte_view::constants::{
 };
 use byte_view::flaws::TOO_BIG;
 use byte_view::{Flaw, u16_at};
-use elf_face::{FaceFault, read_face};
-use load_model::Face;
+use elf_face::{FaceFault, read_loaded};
 use path_text::Abs;
 use ports::Tree;
 use std::alloc::Global;
@@ -33,7 +33,7 @@ const FRONT: u64 = E_VERSION_AT;
 #[derive(Drop)]
 pub enum Seen {
     ForAnother,
-    Faced(Face),
+    Faced(FaceWithTables),
     Flawed(Flaw),
 }
 
@@ -106,8 +106,8 @@ fn face_in(alloc: Global, bytes: &[u8]) -> Result<Seen, ReadStop>
     ensures few { IfOk result (λ seen. IsFewSeen seen) }
     ensures memory { IfErr result (λ stop. stop ≡ ReadStop.NoMemory) }
 {
-    match read_face(alloc, bytes) {
-        Ok(face) => Ok(Seen::Faced(face)),
+    match read_loaded(alloc, bytes) {
+        Ok(loaded) => Ok(Seen::Faced(FaceWithTables::of(loaded))),
         Err(FaceFault::Flawed(flaw)) => Ok(Seen::Flawed(flaw)),
         Err(FaceFault::NoMemory) => Err(ReadStop::NoMemory),
     }
