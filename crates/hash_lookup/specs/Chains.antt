@@ -1,10 +1,11 @@
--- The symbols of the chain that the hash of a name leads to (System V gABI, Hash Table; the GNU hash
--- table)
+-- The symbols of the chain that the hash of a name leads to (System V gABI, Hash Table; the hash
+-- table of the GNU tools)
 use Rattle.std.specs.Prelude.{ℕ, ◌+◌, ◌-◌, ◌/◌, ◌%◌, ◌==◌, ◌||◌, cond, nat_lt, List, [], ◌∷◌, length, slice_index, drop}
 use Rattle.load_model.specs.GnuTable.{GnuTable, is_last, passes_bloom}
 use Rattle.load_model.specs.SysvTable.{SysvTable, chain}
 
--- the chain from a symbol and its word on, each symbol with its word; the first odd word is the last
+-- the chain from a symbol and its word on, each symbol with its word; the first odd word is the
+-- last
 unfoldable pub run : ℕ → List ℕ → List (ℕ × ℕ)
 run i [] = []
 run i (w ∷ more) = (i, w) ∷ cond (is_last w) [] (run (i + 1) more)

@@ -60,8 +60,8 @@ impl GnuChains {
         })
     }
 
-    /// What is found in the chain of the bucket of a name, once the Bloom filter lets its hash pass.
-    /// Only where a chain word is that of the name's hash, names are compared.
+    /// What is found in the chain of the bucket of a name, once the Bloom filter lets its hash
+    /// pass. Names are compared only where the chain word is that of the name's hash.
     pub(crate) fn find<L: Ledger>(&self, lookup: &Lookup<'_>, steps: &mut Steps<L>) -> Found
         requires few { length lookup.now.syms.now < 2 ^ 32 }
         ensures found { result ≡ found_in (wish_of lookup.now) lookup.now.syms.now nothing

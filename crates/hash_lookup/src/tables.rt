@@ -23,8 +23,8 @@ use std::marker::{Brand, Model};
 use std::sync::ledger::{Blank, Ledger};
 use sym_tables::Syms;
 
-/// The symbols of an object, and the hash table by which they are found: that of the GNU tools where
-/// there is one. The file's bytes are not kept.
+/// The symbols of an object, and the hash table by which they are found: that of the GNU tools
+/// where there is one. The file's bytes are not kept.
 #[derive(Drop)]
 pub struct Tables {
     syms: List<Sym>,

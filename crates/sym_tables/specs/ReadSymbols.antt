@@ -14,8 +14,8 @@ use Rattle.sym_tables.specs.FoundTables.{IsGnuAt, IsSysvAt}
 use Rattle.sym_tables.specs.Listing.{file_strings}
 use Rattle.sym_tables.specs.declared.tables.Tables.{Tables}
 
--- how many symbols there are, their words by index, where the hash tables begin and end in the file,
--- the hash tables, and where the string table begins and ends
+-- how many symbols there are, their words by index, where the hash tables begin and end in the
+-- file, the hash tables, and where the string table begins and ends
 pub record Symbols : Type 0 where
   pub count : ℕ
   pub raw : List RawSym
