@@ -3,7 +3,7 @@
 ghost use Rattle.std.specs.Prelude.{◌<◌, ◌^◌, length};
 
 use crate::document::{LookupRow, OfferRow};
-use case_files::bytes_of;
+use case_files::{HashTables, bytes_of};
 use case_rows::Fault;
 use elf_face::{Loaded, read_loaded};
 use load_model::Offers;
@@ -11,7 +11,7 @@ use std::alloc::Global;
 
 /// A line for each reference that goes to another symbol than is wanted.
 pub fn differing(alloc: Global, row: &LookupRow<'_>) -> Result<Vec<u8>, Fault> {
-    let bytes = bytes_of(alloc, row.file)?;
+    let bytes = bytes_of(alloc, row.file, HashTables::AsShaped)?;
     let Ok(loaded) = read_loaded(alloc, bytes.as_slice()) else {
         return Err(Fault::Field("file"));
     };
