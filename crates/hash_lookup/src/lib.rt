@@ -8,10 +8,12 @@ mod candidates;
 mod copies;
 mod finding;
 mod gnu_chains;
+mod laws;
 mod steps;
 mod sysv_chains;
 mod tables;
 
+pub use laws::bucket_of_three;
 pub use load_model::{Class, NoMemory, Offers};
 pub use steps::Steps;
 pub use tables::Tables;
