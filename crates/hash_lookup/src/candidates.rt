@@ -5,9 +5,8 @@
 
 ghost use Rattle.std.specs.Prelude.{◌≡◌};
 ghost use Rattle.hash_lookup.specs.Finding.{is_spare, is_sure, wish_of};
-ghost use Rattle.load_model.specs.Offers.{has_version, has_wanted_version, is_candidate, is_early, is_global, is_first_version, is_local, is_open_to, is_shown, suits};
 
-use load_model::{Class, Sym, Ver, is_bindable};
+use load_model::{Class, Sym, has_wanted_version, is_candidate, is_first_version};
 
 /// What a reference asks an object for, the object's symbols, and whether it has a table of version
 /// indexes.
@@ -49,76 +48,4 @@ impl Lookup<'_> {
             None => is_candidate(s, self.name, self.class) && !s.hidden,
         }
     }
-}
-
-/// Whether it is an open symbol of this name, with a version index other than 0.
-fn is_candidate(s: &Sym, name: &[u8], class: Class) -> bool
-    ensures { result ≡ is_candidate name.now class s.now }
-{
-    is_open_to(s, class) && s.name.as_bytes() == name && !is_local(&s.version)
-}
-
-/// Whether it is open to references of this class.
-fn is_open_to(s: &Sym, class: Class) -> bool
-    ensures { result ≡ is_open_to class s.now }
-{
-    is_bindable(s.binding, s.kind, s.visibility, s.value_set) && suits(class, s.defined)
-}
-
-/// Whether a reference of this class may go to such a symbol.
-fn suits(class: Class, defined: bool) -> bool
-    ensures { result ≡ suits class defined }
-{
-    match class {
-        Class::Call => defined,
-        Class::Plain | Class::Copy => true,
-    }
-}
-
-/// Whether the version index is 0.
-fn is_local(version: &Ver) -> bool
-    ensures { result ≡ is_local version.now }
-{
-    match version {
-        Ver::Local => true,
-        Ver::Global | Ver::Named { .. } => false,
-    }
-}
-
-/// Whether the version index is 1.
-fn is_global(version: &Ver) -> bool
-    ensures { result ≡ is_global version.now }
-{
-    match version {
-        Ver::Global => true,
-        Ver::Local | Ver::Named { .. } => false,
-    }
-}
-
-/// Whether the version index is 1 or 2.
-fn is_first_version(version: &Ver) -> bool
-    ensures { result ≡ is_first_version version.now }
-{
-    match version {
-        Ver::Local => false,
-        Ver::Global => true,
-        Ver::Named { index, .. } => *index == 2,
-    }
-}
-
-/// Whether the version has this name.
-fn has_version(version: &Ver, wanted: &[u8]) -> bool
-    ensures { result ≡ has_version wanted.now version.now }
-{
-    match version {
-        Ver::Local | Ver::Global => false,
-        Ver::Named { name, .. } => name.as_bytes() == wanted,
-    }
-}
-
-/// Whether it is of this version, or without one and not hidden.
-fn has_wanted_version(s: &Sym, wanted: &[u8]) -> bool
-    ensures { result ≡ has_wanted_version wanted.now s.now }
-{
-    has_version(&s.version, wanted) || is_global(&s.version) && !s.hidden
 }

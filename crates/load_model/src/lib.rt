@@ -34,7 +34,9 @@ pub use laws::{
     recursion_gives_the_stop, run_in_two_worlds,
 };
 pub use lists::List;
-pub use offers::{Offers, is_bindable, is_shared};
+pub use offers::{
+    Offers, has_wanted_version, is_bindable, is_candidate, is_first_version, is_shared,
+};
 pub use opening::{OpenFault, Opened, Opener};
 pub use path_text::NoMemory;
 pub use refusals::LoadRefusal;

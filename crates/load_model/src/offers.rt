@@ -141,7 +141,7 @@ fn is_shown(s: &Sym, name: &[u8], class: Class) -> bool
 }
 
 /// Whether it is an open symbol of this name, with a version index other than 0.
-fn is_candidate(s: &Sym, name: &[u8], class: Class) -> bool
+pub fn is_candidate(s: &Sym, name: &[u8], class: Class) -> bool
     ensures { result ≡ is_candidate name.now class s.now }
 {
     is_open_to(s, class) && s.name.as_bytes() == name && !is_local(&s.version)
@@ -226,7 +226,7 @@ fn is_global(version: &Ver) -> bool
 }
 
 /// Whether the version index is 1 or 2.
-fn is_first_version(version: &Ver) -> bool
+pub fn is_first_version(version: &Ver) -> bool
     ensures { result ≡ is_first_version version.now }
 {
     match version {
@@ -247,7 +247,7 @@ fn has_version(version: &Ver, wanted: &[u8]) -> bool
 }
 
 /// Whether it is of this version, or without one and not hidden.
-fn has_wanted_version(s: &Sym, wanted: &[u8]) -> bool
+pub fn has_wanted_version(s: &Sym, wanted: &[u8]) -> bool
     ensures { result ≡ has_wanted_version wanted.now s.now }
 {
     has_version(&s.version, wanted) || is_global(&s.version) && !s.hidden
