@@ -6,7 +6,7 @@ use Rattle.ports.specs.declared.folders.MemFile.{MemFile}
 use Rattle.ports.specs.declared.folders.RootState.TheVariants.{Empty, NotEmpty as Filled}
 use Rattle.ports.specs.Folder.{Added, Folder, with_files, with_root}
 use Rattle.ports.specs.View.{Became, Changed, View}
-use Rattle.deliveries.specs.Delivery.{IsDelivered, IsFull, IsPart, IsWhole}
+use Rattle.deliveries.specs.Delivery.{IsDelivered, IsFull, IsCutShort, IsWhole}
 use Rattle.refusals.specs.Lines.{refusal_line}
 use Rattle.deliveries.specs.Saying.{IsSaid}
 use Rattle.deliveries.specs.declared.answer.Whole.{Whole}
@@ -53,7 +53,7 @@ module _ (whole : Whole) (before rooted_view : View Folder) (sink sink' : View (
         ]
 
     -- a part was written
-    pub part_delivered : (items : List MemFile) (count : ℕ) → items ≡ whole.items → count < length items → Changed (Added (take count items)) rooted_view after → IsPart whole before after
+    pub part_delivered : (items : List MemFile) (count : ℕ) → items ≡ whole.items → count < length items → Changed (Added (take count items)) rooted_view after → IsCutShort whole before after
     part_delivered items count same proper cut = record {
       empty = λ folder told. no_files folder.finished (state folder told);
       count = count;

@@ -38,7 +38,7 @@ pub record HasBegun (place : List ℕ) (files : List MemFile) (old latest : Fold
   pub roots : latest.roots ≡ old.roots ++ place ∷ []
 
 -- A front part of the files that is not all of them was written, into a folder that had no file.
-pub record IsPart (whole : Whole) (before after : View Folder) : Type 0 where
+pub record IsCutShort (whole : Whole) (before after : View Folder) : Type 0 where
   pub empty : IsEmptyFolder before
   pub count : ℕ
   pub proper : count < length whole.items
@@ -47,7 +47,7 @@ pub record IsPart (whole : Whole) (before after : View Folder) : Type 0 where
 -- A fault of the folder left it untouched, or with a part.
 pub record IsCutOff (whole : Whole) (before after : View Folder) : Type 0 where
   pub cause : Rose before.faults after.faults
-  pub left : Stays before after ⊎ IsPart whole before after
+  pub left : Stays before after ⊎ IsCutShort whole before after
 
 -- How writing the files and saying their line ends with each status.
 abbrev pub IsDelivered : Whole → View Folder → View Folder → View (List ℕ) → View (List ℕ)

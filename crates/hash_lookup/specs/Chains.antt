@@ -6,21 +6,22 @@ use Rattle.load_model.specs.SysvTable.{SysvTable, chain}
 
 -- the chain from a symbol and its word on, each symbol with its word; the first odd word is the
 -- last
-unfoldable pub run : ℕ → List ℕ → List (ℕ × ℕ)
-run i [] = []
-run i (w ∷ more) = (i, w) ∷ cond (is_last w) [] (run (i + 1) more)
+unfoldable pub chain_along : ℕ → List ℕ → List (ℕ × ℕ)
+chain_along i [] = []
+chain_along i (w ∷ more) = (i, w) ∷ cond (is_last w) [] (chain_along (i + 1) more)
 
 -- the chain that begins at a symbol of a table: none at 0, and below the first listed one
-unfoldable pub run_from : GnuTable → ℕ → List (ℕ × ℕ)
-run_from t first =
-    cond ((first == 0) || nat_lt first t.offset) [] (run first (drop (first - t.offset) t.words))
+unfoldable pub chain_at : GnuTable → ℕ → List (ℕ × ℕ)
+chain_at t first =
+    cond ((first == 0) || nat_lt first t.offset) []
+    (chain_along first (drop (first - t.offset) t.words))
 
 -- the first symbol of a hash's bucket
 unfoldable pub first_of : List ℕ → ℕ → ℕ
 first_of buckets hash = slice_index buckets (hash % length buckets)
 
 unfoldable pub gnu_chain : GnuTable → ℕ → List (ℕ × ℕ)
-gnu_chain t hash = run_from t (first_of t.buckets hash)
+gnu_chain t hash = chain_at t (first_of t.buckets hash)
 
 -- those of a chain whose word is the hash but for the low bit
 unfoldable pub with_hash : ℕ → List (ℕ × ℕ) → List ℕ

@@ -1,7 +1,7 @@
 //! The chains of a hash table of the GNU tools, and its Bloom filter.
 
 ghost use Rattle.std.specs.Prelude.{◌≡◌, ◌≤◌, ◌<◌, ◌+◌, ◌^◌, IfOk, length};
-ghost use Rattle.hash_lookup.specs.Chains.{gnu_chain, gnu_matches, run, run_from, with_hash};
+ghost use Rattle.hash_lookup.specs.Chains.{gnu_chain, gnu_matches, chain_along, chain_at, with_hash};
 ghost use Rattle.hash_lookup.specs.Finding.{found_in, nothing, wish_of};
 ghost use Rattle.load_model.specs.GnuTable.{is_last, passes_bloom};
 ghost use Rattle.load_model.specs.Hashes.{gnu_hash};
@@ -90,9 +90,9 @@ impl GnuChains {
     }
 
     /// The chain words from a symbol on; none from 0 on, nor from a symbol that is not listed.
-    #[tactic(auto, unfolding(crate::specs::Chains::run, crate::specs::Chains::run_from))]
+    #[tactic(auto, unfolding(crate::specs::Chains::chain_along, crate::specs::Chains::chain_at))]
     fn words_from(&self, first: u32) -> &[u32]
-        ensures { run first result.now ≡ run_from self.now first }
+        ensures { chain_along first result.now ≡ chain_at self.now first }
     {
         if first == 0 || first < self.offset {
             return &[];
@@ -116,8 +116,8 @@ fn along<L: Ledger>(
 ) -> Found
     requires few { length lookup.now.syms.now < 2 ^ 32 }
     ensures found { result ≡ found_in (wish_of lookup.now) lookup.now.syms.now nothing
-        (with_hash hash (run first words.now)) }
-    ensures cost { steps.new ≡ steps.old + length (run first words.now) }
+        (with_hash hash (chain_along first words.now)) }
+    ensures cost { steps.new ≡ steps.old + length (chain_along first words.now) }
 {
     let mut found = Found::nothing();
     for (k, word) in words.iter().enumerate() {
