@@ -1,0 +1,4 @@
+pub mod Alike
+pub mod Entries
+pub mod Kept
+pub mod NewHeaders
