@@ -1,0 +1,11 @@
+pub mod FittingFace
+pub mod NewFile
+pub mod NewSegment
+pub mod NewTable
+pub mod NewTexts
+pub mod Patched
+pub mod Pieces
+pub mod Ranges
+pub mod Rewriting
+pub mod Stops
+pub mod Words
