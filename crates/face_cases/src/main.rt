@@ -3,13 +3,12 @@
 #![tactic(auto)]
 
 mod document;
-mod faces;
 mod objects;
 
 use case_files::{HashTables, altered, bytes_of, object_of};
 use case_rows::Fault;
 use document::{ChangedRow, Document, FaceRow, ObjectRow, Wanted, name_of};
-use faces::{told_text, wanted_text};
+use face_lines::{lines_text, push_line, told_text};
 use objects::is_as_wanted;
 use std::alloc::Global;
 use std::io;
@@ -84,6 +83,15 @@ fn differing(alloc: Global, bytes: &[u8], wanted: &Wanted<'_>) -> Result<Option<
     } else {
         Ok(Some(text))
     }
+}
+
+/// The lines that are wanted, or the line of the flaw.
+fn wanted_text(alloc: Global, wanted: &Wanted<'_>) -> Result<Vec<u8>, Fault> {
+    let mut text = lines_text(alloc, wanted.lines)?;
+    if let Some(flaw) = wanted.flaw {
+        push_line(&mut text, flaw.as_bytes())?;
+    }
+    Ok(text)
 }
 
 /// The same of a file that is changed.

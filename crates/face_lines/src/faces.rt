@@ -1,11 +1,11 @@
 //! What a loader sees in files, as lines.
 
-use crate::document::Wanted;
 use byte_view::{Flaw, Told, flaw_name, numbers_told};
 use case_rows::{Fault, text_of};
 use elf_face::{flaw_of, read_face};
 use load_model::{Ask, Face, Name, Sym, Ver, escape};
 use std::alloc::Global;
+use toml::Value;
 
 /// The lines of the face of a file, or the line of its flaw.
 pub fn told_text(alloc: Global, bytes: &[u8]) -> Result<Vec<u8>, Fault> {
@@ -18,19 +18,17 @@ pub fn told_text(alloc: Global, bytes: &[u8]) -> Result<Vec<u8>, Fault> {
     }
 }
 
-/// The lines that are wanted, or the line of the flaw.
-pub fn wanted_text(alloc: Global, wanted: &Wanted<'_>) -> Result<Vec<u8>, Fault> {
+/// Lines, each with its end.
+pub fn lines_text(alloc: Global, lines: &[Value]) -> Result<Vec<u8>, Fault> {
     let mut text = Vec::new(alloc);
-    for line in wanted.lines {
+    for line in lines {
         push_line(&mut text, text_of(line)?.as_bytes())?;
-    }
-    if let Some(flaw) = wanted.flaw {
-        push_line(&mut text, flaw.as_bytes())?;
     }
     Ok(text)
 }
 
-fn push_line(text: &mut Vec<u8>, line: &[u8]) -> Result<(), Fault> {
+/// Adds a line and its end.
+pub fn push_line(text: &mut Vec<u8>, line: &[u8]) -> Result<(), Fault> {
     text.extend_from_slice(line)?;
     text.push(b'\n')?;
     Ok(())
