@@ -8,7 +8,7 @@ use Rattle.load_model.specs.declared.asks.Ask.{Ask}
 use Rattle.elf_rewrite.specs.declared.patch.Patch.{Patch}
 use Rattle.elf_rewrite.proofs.TextSteps.{at_index}
 use Rattle.elf_rewrite.specs.NewTable.{new_place}
-use Rattle.elf_rewrite.specs.Rewriting.{file_in}
+use Rattle.elf_rewrite.specs.Rewriting.{ask_file_in}
 
 -- a new text stands below the end of the table
 pub place_below : (at : ℕ) (t : List ℕ) (texts : List (List ℕ)) (p : ℕ) → place_from at t texts ≡ Some p → p < at + length (added texts)
@@ -30,11 +30,11 @@ place_small g t = go (place_from g.old_size t g.texts) refl
     go (Some p) e = let low = place_below g.old_size t g.texts p e in omega arith
 
 -- the file of a need by its ask at a place, or by those behind it
-pub file_here : (needs : List ℕ) (asks : List Ask) (news : List (List ℕ)) (k i n : ℕ) (ask : Ask) (new : List ℕ) → i < length needs → length needs ≡ length asks → length needs ≡ length news → n ≡ get_or needs i n → ask ≡ get_or asks i ask → new ≡ get_or news i new → (n == k) ≡ true → file_in (drop i needs) (map (λ a. a.file) (drop i asks)) (drop i news) k ≡ Some (ask.file, new)
+pub file_here : (needs : List ℕ) (asks : List Ask) (news : List (List ℕ)) (k i n : ℕ) (ask : Ask) (new : List ℕ) → i < length needs → length needs ≡ length asks → length needs ≡ length news → n ≡ get_or needs i n → ask ≡ get_or asks i ask → new ≡ get_or news i new → (n == k) ≡ true → ask_file_in (drop i needs) (map (λ a. a.file) (drop i asks)) (drop i news) k ≡ Some (ask.file, new)
 file_here needs asks news k i n ask new h ea en e1 e2 e3 same =
     rw (at_index needs i n h e1, at_index asks i ask (omega arith) e2, at_index news i new (omega arith) e3, same) refl
 
-pub file_past : (needs : List ℕ) (asks : List Ask) (news : List (List ℕ)) (k i n : ℕ) (ask : Ask) (new : List ℕ) → i < length needs → length needs ≡ length asks → length needs ≡ length news → n ≡ get_or needs i n → ask ≡ get_or asks i ask → new ≡ get_or news i new → (n == k) ≡ false → file_in (drop i needs) (map (λ a. a.file) (drop i asks)) (drop i news) k ≡ file_in (drop (i + 1) needs) (map (λ a. a.file) (drop (i + 1) asks)) (drop (i + 1) news) k
+pub file_past : (needs : List ℕ) (asks : List Ask) (news : List (List ℕ)) (k i n : ℕ) (ask : Ask) (new : List ℕ) → i < length needs → length needs ≡ length asks → length needs ≡ length news → n ≡ get_or needs i n → ask ≡ get_or asks i ask → new ≡ get_or news i new → (n == k) ≡ false → ask_file_in (drop i needs) (map (λ a. a.file) (drop i asks)) (drop i news) k ≡ ask_file_in (drop (i + 1) needs) (map (λ a. a.file) (drop (i + 1) asks)) (drop (i + 1) news) k
 file_past needs asks news k i n ask new h ea en e1 e2 e3 other =
     rw (at_index needs i n h e1, at_index asks i ask (omega arith) e2, at_index news i new (omega arith) e3, other) refl
 

@@ -34,7 +34,7 @@ use Rattle.elf_rewrite.specs.NewFile.{Fits, IsNewFile}
 use Rattle.elf_rewrite.specs.NewTable.{entries_in, grown_by, new_place, new_size, new_strings_at, old_size, places_with}
 use Rattle.elf_rewrite.specs.NewTexts.{changed_texts, new_texts, removes, wants_segment}
 use Rattle.elf_rewrite.specs.Patched.{end_of, patched, range_of}
-use Rattle.elf_rewrite.specs.Pieces.{IsSound, Overlay, laid, put_together}
+use Rattle.elf_rewrite.specs.Pieces.{StaysWithin, Overlay, laid, put_together}
 use Rattle.elf_rewrite.specs.Ranges.{first_overlap, meets, ranges_of, single_range, where_known}
 use Rattle.elf_rewrite.specs.Rewriting.{file_for, padded, rewriting, table_patch}
 use Rattle.elf_rewrite.specs.Words.{entries_bytes}
@@ -132,7 +132,7 @@ narrow_file b change = laid b (narrow b change)
 narrow_is : (b : List ℕ) (change : Change) → IsNarrowed b change → rewriting b change ≡ narrow b change
 narrow_is b change n = rewriting_narrow b change n.still n.removed
 
-narrow_sound : (b : List ℕ) (change : Change) → IsNarrowed b change → IsSound (narrow b change)
+narrow_sound : (b : List ℕ) (change : Change) → IsNarrowed b change → StaysWithin (narrow b change)
 narrow_sound b change n =
     let fine = (unflawed_parts b n.unflawed).headers in
     let w = whole b fine in

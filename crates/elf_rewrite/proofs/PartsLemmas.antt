@@ -30,7 +30,7 @@ use Rattle.two_files.proofs.EntryFlaws.{entries_fine, new_unended, tags_fine}
 use Rattle.two_files.proofs.Strings.{last_zero, strings_long}
 use Rattle.two_files.proofs.Names.{AreWanted, names_within}
 use Rattle.elf_rewrite.specs.NewFile.{Fits}
-use Rattle.elf_rewrite.specs.NewTable.{entries_in, grown_by, new_size, new_strings_at, old_size, places_in}
+use Rattle.elf_rewrite.specs.NewTable.{entries_in, grown_by, new_size, new_strings_at, old_size, text_places}
 use Rattle.elf_rewrite.specs.NewTexts.{new_texts}
 use Rattle.elf_rewrite.specs.Rewriting.{file_for}
 use Rattle.elf_rewrite.specs.declared.change.Change.{Change}
@@ -75,15 +75,15 @@ strings_said xs e =
     (tag_on DT_STRTAB xs first.0, tag_on DT_STRSZ xs third.0)
 
 pub new_place_is : (b : List ℕ) (change : Change) → missing_flaw (dynamic_entries b) ≡ None → strings_at (entries_in b change) ≡ new_strings_at b change
-unfolding places_in
+unfolding text_places
 new_place_is b change e =
-    let at : value_of DT_STRTAB (new_entries (places_in b change) (dynamic_entries b)) ≡ Some (new_strings_at b change) = table_at (places_in b change) (dynamic_entries b) ∙ rw ((strings_said (dynamic_entries b) e).0) refl in
+    let at : value_of DT_STRTAB (new_entries (text_places b change) (dynamic_entries b)) ≡ Some (new_strings_at b change) = table_at (text_places b change) (dynamic_entries b) ∙ rw ((strings_said (dynamic_entries b) e).0) refl in
     rw (entries_are b change, at) refl
 
 pub new_size_is : (b : List ℕ) (change : Change) → missing_flaw (dynamic_entries b) ≡ None → strings_size (entries_in b change) ≡ new_size b change
-unfolding places_in
+unfolding text_places
 new_size_is b change e =
-    let at : value_of DT_STRSZ (new_entries (places_in b change) (dynamic_entries b)) ≡ Some (new_size b change) = table_size (places_in b change) (dynamic_entries b) ∙ rw ((strings_said (dynamic_entries b) e).1) refl in
+    let at : value_of DT_STRSZ (new_entries (text_places b change) (dynamic_entries b)) ≡ Some (new_size b change) = table_size (text_places b change) (dynamic_entries b) ∙ rw ((strings_said (dynamic_entries b) e).1) refl in
     rw (entries_are b change, at) refl
 
 -- the entries are those before the end
@@ -155,7 +155,7 @@ old_ends b s =
 
 grown_there : (b : List ℕ) (change : Change) (c : List ℕ) → HasTable b → HasParts b change c → HasGrown b change c
 grown_there b change c t p =
-    let unended : list_any is_end (entries_in b change) ≡ false = rw (entries_are b change) (new_unended (places_in b change) (dynamic_entries b) (old_unended b)) in
+    let unended : list_any is_end (entries_in b change) ≡ false = rw (entries_are b change) (new_unended (text_places b change) (dynamic_entries b) (old_unended b)) in
     let entries : dynamic_entries c ≡ entries_in b change = entries_there b change c p unended in
     let size : strings_size (dynamic_entries c) ≡ new_size b change = rw entries (new_size_is b change t.tags) in
     let at : strings_at (dynamic_entries c) ≡ new_strings_at b change = rw entries (new_place_is b change t.tags) in
@@ -168,9 +168,9 @@ grown_there b change c t p =
 low_off : (size at : ℕ) → at < size → nat_le size at ≡ false
 low_off size at h = grind (arith, nat_tests)
 
-names_low : (b : List ℕ) (change : Change) (c : List ℕ) → missing_flaw (dynamic_entries b) ≡ None → ReadsNames b change c → AreWanted (λ n. nat_le (strings_size (new_entries (places_in b change) (dynamic_entries b))) n) (places_in b change)
+names_low : (b : List ℕ) (change : Change) (c : List ℕ) → missing_flaw (dynamic_entries b) ≡ None → ReadsNames b change c → AreWanted (λ n. nat_le (strings_size (new_entries (text_places b change) (dynamic_entries b))) n) (text_places b change)
 names_low b change c tags n =
-    let size : strings_size (new_entries (places_in b change) (dynamic_entries b)) ≡ new_size b change = rw (← entries_are b change) (new_size_is b change tags) in
+    let size : strings_size (new_entries (text_places b change) (dynamic_entries b)) ≡ new_size b change = rw (← entries_are b change) (new_size_is b change tags) in
     rw size (record {
       needs = λ k d h. low_off (new_size b change) _ (n.needs.all k d h).0;
       soname = λ v e. low_off (new_size b change) v (n.soname.fine v e).0;
@@ -191,12 +191,12 @@ remade b change c fits p =
     let s = has_strings b t.strings in
     let g = grown_there b change c t p in
     let n = names_read b change c t.strings fits g in
-    let named : bad_name (entries_in b change) ≡ None = rw (entries_are b change) (names_within (places_in b change) (dynamic_entries b) (names_low b change c t.tags n) (needs_placed b change fits)) in
+    let named : bad_name (entries_in b change) ≡ None = rw (entries_are b change) (names_within (text_places b change) (dynamic_entries b) (names_low b change c t.tags n) (needs_placed b change fits)) in
     let at = new_place_is b change t.tags in
     let size = new_size_is b change t.tags in
-    let unended : list_any is_end (entries_in b change) ≡ false = rw (entries_are b change) (new_unended (places_in b change) (dynamic_entries b) (old_unended b)) in
-    let single : entry_flaw [] (entries_in b change) ≡ None = rw (entries_are b change) (entries_fine (places_in b change) (dynamic_entries b) t.single) in
-    let tags : missing_flaw (entries_in b change) ≡ None = rw (entries_are b change) (tags_fine (places_in b change) (dynamic_entries b) t.tags) in
+    let unended : list_any is_end (entries_in b change) ≡ false = rw (entries_are b change) (new_unended (text_places b change) (dynamic_entries b) (old_unended b)) in
+    let single : entry_flaw [] (entries_in b change) ≡ None = rw (entries_are b change) (entries_fine (text_places b change) (dynamic_entries b) t.single) in
+    let tags : missing_flaw (entries_in b change) ≡ None = rw (entries_are b change) (tags_fine (text_places b change) (dynamic_entries b) t.tags) in
     let old_long : length (strings_of b (headers b) (dynamic_entries b)) ≡ old_size b = strings_long b (headers b) (dynamic_entries b) in
     let long : length (strings_of b (headers b) (dynamic_entries b) ++ added (new_texts b change)) ≡ new_size b change = length-append _ (added (new_texts b change)) ∙ ap (λ n. n + length (added (new_texts b change))) old_long in
     let byte : slice_get c (p.range.0 + (new_size b change - 1)) ≡ Some 0 = last_byte c _ p.range.0 (new_size b change) p.strings (ends_grown (strings_of b (headers b) (dynamic_entries b)) (new_texts b change) (old_ends b s)) long in

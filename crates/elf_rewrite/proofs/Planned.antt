@@ -19,10 +19,10 @@ use Rattle.strtab_grow.specs.declared.texts.TheConstants.{TABLE_LIMIT}
 use Rattle.two_files.specs.Entries.{new_entries}
 use Rattle.version_tables.specs.VersionLists.{IsVersionsOf, VersionLists}
 use Rattle.elf_rewrite.specs.NewSegment.{headers_size, segment_addr}
-use Rattle.elf_rewrite.specs.NewTable.{entries_in, grown_by, places_in, places_with}
+use Rattle.elf_rewrite.specs.NewTable.{entries_in, grown_by, text_places, places_with}
 use Rattle.elf_rewrite.specs.NewTexts.{changed_texts, removes, wants_segment}
-use Rattle.elf_rewrite.specs.Pieces.{IsSound}
-use Rattle.elf_rewrite.specs.Rewriting.{IsSmallLayout, file_in, file_patch, file_patches, layout_by, layout_of, patches_by, pieces_by, rewriting, segment_patches, segment_pieces, table_patch}
+use Rattle.elf_rewrite.specs.Pieces.{StaysWithin}
+use Rattle.elf_rewrite.specs.Rewriting.{IsSmallLayout, ask_file_in, file_patch, file_patches, layout_by, layout_of, patches_by, pieces_by, rewriting, segment_patches, segment_pieces, table_patch}
 use Rattle.elf_rewrite.specs.declared.change.Change.{Change}
 use Rattle.elf_rewrite.specs.declared.layout.Layout.{Layout}
 use Rattle.elf_rewrite.specs.declared.patch.Patch.{Patch}
@@ -40,7 +40,7 @@ read_count segments b r = ap length r.same ∙ headers_count b
 
 -- the files that change, as they were read
 abbrev pub files_by : Growth → VersionLists → List (List ℕ) → List Patch
-files_by g v files = flat_map (λ p. file_patch g p.1 (file_in v.ask_needs (map (λ a. a.file) v.asks) files p.0)) (enumerate_from 0 v.file_words)
+files_by g v files = flat_map (λ p. file_patch g p.1 (ask_file_in v.ask_needs (map (λ a. a.file) v.asks) files p.0)) (enumerate_from 0 v.file_words)
 
 files_same : (b : List ℕ) (change : Change) (g : Growth) (v : VersionLists) → g ≡ grown_by b change → IsVersionsOf v (symbol_count b) b → files_by g v change.files ≡ file_patches b change
 unfolding file_patches
@@ -63,7 +63,7 @@ pub record IsMade (b : List ℕ) (change : Change) (elf : List Segment) (t : Tab
   pub small : IsSmallLayout l
 
 entries_same : (b : List ℕ) (change : Change) (at : ℕ) (entries : List Entry) → wants_segment b change ≡ true → AreEntries b change (segment_addr b + headers_size b) entries → entries ≡ entries_in b change
-unfolding entries_in places_in
+unfolding entries_in text_places
 entries_same b change at entries w e = e.are ∙ rw w refl
 
 layout_same : (b : List ℕ) (change : Change) (g : Growth) (capacity : ℕ) (entries : List Entry) → g ≡ grown_by b change → capacity ≡ dynamic_capacity b → entries ≡ entries_in b change → layout_by b (size_of g) (length entries) capacity ≡ layout_of b change
@@ -100,7 +100,7 @@ entries_few b change at entries e = omega (arith, ap length e.are, entries_most 
 read_same : (elf : List Segment) (b : List ℕ) → IsReadFrom elf b → IsReadFrom (headers b) b
 read_same elf b r = record { same = refl; unflawed = r.unflawed }
 
-pub made_sound : (b : List ℕ) (change : Change) (elf : List Segment) (t : Table) (v : VersionLists) (g : Growth) (entries : List Entry) (l : Layout) (patches : List Patch) (pieces : List Piece) → IsMade b change elf t v g entries l → length elf < 2 ^ 16 → length entries < 2 ^ 33 → patches ≡ patches_by l (length elf) (files_by g v change.files) t.capacity entries (find is_dynamic elf) → pieces ≡ pieces_by (length b) l elf (range_in elf (strings_at t.entries) (strings_size t.entries)) (added g.texts) entries → IsSound (record { old_len = length b; patches = patches; added = pieces })
+pub made_sound : (b : List ℕ) (change : Change) (elf : List Segment) (t : Table) (v : VersionLists) (g : Growth) (entries : List Entry) (l : Layout) (patches : List Patch) (pieces : List Piece) → IsMade b change elf t v g entries l → length elf < 2 ^ 16 → length entries < 2 ^ 33 → patches ≡ patches_by l (length elf) (files_by g v change.files) t.capacity entries (find is_dynamic elf) → pieces ≡ pieces_by (length b) l elf (range_in elf (strings_at t.entries) (strings_size t.entries)) (added g.texts) entries → StaysWithin (record { old_len = length b; patches = patches; added = pieces })
 made_sound b change elf t v g entries l patches pieces m few most ep ea =
     let fine = whole b m.headers.unflawed in
     let files : files_by g v change.files ≡ file_patches b change = files_same b change g v m.grown m.versions in
@@ -131,7 +131,7 @@ unfolding rewriting
 rewriting_none b change w r = rw (w, r) refl
 
 entries_narrow : (b : List ℕ) (change : Change) (entries : List Entry) → wants_segment b change ≡ false → AreEntries b change (strings_at (dynamic_entries b)) entries → entries ≡ entries_in b change
-unfolding entries_in places_in
+unfolding entries_in text_places
 entries_narrow b change entries w e = e.are ∙ rw w refl
 
 pub narrow : (b : List ℕ) (change : Change) (elf : List Segment) (t : Table) (entries : List Entry) (patches : List Patch) → IsReadFrom elf b → IsTableOf t b → wants_segment b change ≡ false → removes b change ≡ true → AreEntries b change (strings_at t.entries) entries → patches ≡ table_patch t.capacity entries (find is_dynamic elf) → record { old_len = length b; patches = patches; added = [] } ≡ rewriting b change
@@ -139,7 +139,7 @@ narrow b change elf t entries patches r rt w rm e ep =
     let es : entries ≡ entries_in b change = entries_narrow b change entries w (rw rt.entries at e) in
     rw (ep, rt.capacity, r.same, es) (sym (rewriting_narrow b change w rm))
 
-pub narrow_sound : (b : List ℕ) (change : Change) (elf : List Segment) (t : Table) (entries : List Entry) (patches : List Patch) → IsReadFrom elf b → IsTableOf t b → wants_segment b change ≡ false → AreEntries b change (strings_at t.entries) entries → patches ≡ table_patch t.capacity entries (find is_dynamic elf) → IsSound (record { old_len = length b; patches = patches; added = [] })
+pub narrow_sound : (b : List ℕ) (change : Change) (elf : List Segment) (t : Table) (entries : List Entry) (patches : List Patch) → IsReadFrom elf b → IsTableOf t b → wants_segment b change ≡ false → AreEntries b change (strings_at t.entries) entries → patches ≡ table_patch t.capacity entries (find is_dynamic elf) → StaysWithin (record { old_len = length b; patches = patches; added = [] })
 narrow_sound b change elf t entries patches r rt w e ep =
     let fine = whole b r.unflawed in
     let none : length (changed_texts b change) ≡ 0 = grind (arith, nat_tests) in
@@ -177,7 +177,7 @@ pub handed : (b : List ℕ) (change : Change) (elf : List Segment) (t : Table) (
 handed b change elf t v g entries l segments files capacity slice patches pieces h =
     made b change elf t v g entries l patches pieces h.made (h.patched ∙ rw (h.same_segments, h.same_files, h.same_capacity) refl) (h.pieced ∙ rw h.same_entries refl)
 
-pub handed_sound : (b : List ℕ) (change : Change) (elf : List Segment) (t : Table) (v : VersionLists) (g : Growth) (entries : List Entry) (l : Layout) (segments : List Segment) (files : List (List ℕ)) (capacity : ℕ) (slice : List Entry) (patches : List Patch) (pieces : List Piece) → AreHanded b change elf t v g entries l segments files capacity slice patches pieces → length elf < 2 ^ 16 → IsSound (record { old_len = length b; patches = patches; added = pieces })
+pub handed_sound : (b : List ℕ) (change : Change) (elf : List Segment) (t : Table) (v : VersionLists) (g : Growth) (entries : List Entry) (l : Layout) (segments : List Segment) (files : List (List ℕ)) (capacity : ℕ) (slice : List Entry) (patches : List Patch) (pieces : List Piece) → AreHanded b change elf t v g entries l segments files capacity slice patches pieces → length elf < 2 ^ 16 → StaysWithin (record { old_len = length b; patches = patches; added = pieces })
 handed_sound b change elf t v g entries l segments files capacity slice patches pieces h few =
     made_sound b change elf t v g entries l patches pieces h.made few (entries_short elf b change (segment_addr b + headers_size b) entries h.made.headers h.made.remade) (h.patched ∙ rw (h.same_segments, h.same_files, h.same_capacity) refl) (h.pieced ∙ rw h.same_entries refl)
 
@@ -204,6 +204,6 @@ pub narrow_done : (b : List ℕ) (change : Change) (elf : List Segment) (t : Tab
 narrow_done b change elf t at entries segments capacity start patches pieces n rm =
     rw n.none (narrow b change elf t entries patches n.headers n.table n.still rm (narrow_remade b change t at entries n.strings n.remade) (narrow_patched b change elf t at entries segments capacity start patches pieces n))
 
-pub narrow_done_sound : (b : List ℕ) (change : Change) (elf : List Segment) (t : Table) (at : ℕ) (entries : List Entry) (segments : List Segment) (capacity : ℕ) (start patches : List Patch) (pieces : List Piece) → IsNarrow b change elf t at entries segments capacity start patches pieces → IsSound (record { old_len = length b; patches = patches; added = pieces })
+pub narrow_done_sound : (b : List ℕ) (change : Change) (elf : List Segment) (t : Table) (at : ℕ) (entries : List Entry) (segments : List Segment) (capacity : ℕ) (start patches : List Patch) (pieces : List Piece) → IsNarrow b change elf t at entries segments capacity start patches pieces → StaysWithin (record { old_len = length b; patches = patches; added = pieces })
 narrow_done_sound b change elf t at entries segments capacity start patches pieces n =
     rw n.none (narrow_sound b change elf t entries patches n.headers n.table n.still (narrow_remade b change t at entries n.strings n.remade) (narrow_patched b change elf t at entries segments capacity start patches pieces n))

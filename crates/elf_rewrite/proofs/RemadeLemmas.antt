@@ -22,7 +22,7 @@ use Rattle.two_files.proofs.Face.{new_face}
 use Rattle.two_files.proofs.Names.{AreWanted, names_texts}
 use Rattle.two_files.proofs.Versions.{counts_kept, name_within, need_words, verneed_there}
 use Rattle.elf_rewrite.specs.NewFile.{Fits, IsNewFile, wanted_of}
-use Rattle.elf_rewrite.specs.NewTable.{grown_by, need_places, need_values, new_size, old_size, places_in}
+use Rattle.elf_rewrite.specs.NewTable.{grown_by, need_places, need_values, new_size, old_size, text_places}
 use Rattle.elf_rewrite.specs.Ranges.{ranges_of, single_range}
 use Rattle.elf_rewrite.specs.Rewriting.{file_for}
 use Rattle.elf_rewrite.specs.declared.change.Change.{Change}
@@ -115,9 +115,9 @@ files_named b change c fits r keeps v =
         rw (there, cnt) (still (not (vn_cnt b (verneed_place b k) == 0)) (is_no_text b (vn_file b (verneed_place b k))) (is_no_text c (vn_file c (verneed_place b k))) old file.fine)
 
 -- the names of the dynamic table
-pub wanted_texts : (b : List ℕ) (change : Change) (c : List ℕ) → ReadsNames b change c → AreWanted (is_no_text c) (places_in b change)
+pub wanted_texts : (b : List ℕ) (change : Change) (c : List ℕ) → ReadsNames b change c → AreWanted (is_no_text c) (text_places b change)
 wanted_texts b change c r = record {
-  needs = All-weaker (λ at. (at < new_size b change) × (is_no_text c at ≡ false)) (λ at. is_no_text c at ≡ false) (λ at h. h.1) (places_in b change).needs r.needs.all;
+  needs = All-weaker (λ at. (at < new_size b change) × (is_no_text c at ≡ false)) (λ at. is_no_text c at ≡ false) (λ at h. h.1) (text_places b change).needs r.needs.all;
   soname = λ v e. (r.soname.fine v e).1;
   runpath = λ v e. (r.runpath.fine v e).1;
 }
@@ -131,14 +131,14 @@ valued_long : (xs : List Entry) → length (map (λ e. e.value) xs) ≡ length x
 valued_long [] = refl
 valued_long (x ∷ xs) = ap suc (valued_long xs)
 
-pub needs_placed : (b : List ℕ) (change : Change) → Fits change b → length (places_in b change).needs ≡ length (filter (λ e. e.tag == DT_NEEDED) (dynamic_entries b))
-unfolding places_in
+pub needs_placed : (b : List ℕ) (change : Change) → Fits change b → length (text_places b change).needs ≡ length (filter (λ e. e.tag == DT_NEEDED) (dynamic_entries b))
+unfolding text_places
 needs_placed b change fits =
     placed_all b change (need_values (dynamic_entries b)) change.needs (needs_counted b change fits) ∙ valued_long (filter (λ e. e.tag == DT_NEEDED) (dynamic_entries b))
 
 texts_fine : (b : List ℕ) (change : Change) (c : List ℕ) (tag : ℕ) → Fits change b → IsRemade b change c → ReadsNames b change c → ((e : Entry) → (e.tag == tag) ≡ true → is_name e ≡ true) → bad_text_of c tag ≡ None
 texts_fine b change c tag fits r n names =
-    names_texts c (places_in b change) (dynamic_entries b) tag (r.grown.entries ∙ entries_are b change) names (wanted_texts b change c n) (needs_placed b change fits)
+    names_texts c (text_places b change) (dynamic_entries b) tag (r.grown.entries ∙ entries_are b change) names (wanted_texts b change c n) (needs_placed b change fits)
 
 names_fine : (b : List ℕ) (change : Change) (c : List ℕ) → Fits change b → IsRemade b change c → ReadsNames b change c → KeepsTexts b c (headers b) (headers c) (dynamic_entries b) (dynamic_entries c) → KeepsVersions (symbol_count b) b c → name_flaw c ≡ None
 unfolding name_flaw

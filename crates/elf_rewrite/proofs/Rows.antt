@@ -27,7 +27,7 @@ use Rattle.two_files.specs.Entries.{new_entries, rewritten}
 use Rattle.elf_rewrite.specs.Pieces.{laid, length_of}
 use Rattle.elf_rewrite.specs.Ranges.{first_overlap, first_pair, ranges_of, single_range}
 use Rattle.elf_rewrite.specs.NewSegment.{segment_addr, segment_place}
-use Rattle.elf_rewrite.specs.NewTable.{entries_in, places_in}
+use Rattle.elf_rewrite.specs.NewTable.{entries_in, text_places}
 use Rattle.elf_rewrite.specs.NewTexts.{changed_texts, new_texts, removes}
 use Rattle.elf_rewrite.specs.Rewriting.{file_patches, layout_of, new_headers, rewriting, segment_patches, segment_pieces}
 use Rattle.elf_rewrite.specs.Stops.{segment_stop, stop_of}
@@ -53,53 +53,53 @@ wanted = record {
 }
 
 texts : new_texts app wanted ≡ codes "$ORIGIN/usr/lib" ∷ []
-unfolding app spare shared ones dynamic_entries dynamic_table entry_of string_at strings_of table_of header_at headers memory_bytes memory_in range_in number_at named_text needs_of ask_needs_of asks_of aux_places_of def_places_of file_place file_words_of memory_number record_place verdef_place vernauxs verneed_place gnu_range symbol_count sysv_range count_in section_count sysv_place word_in words_in new_entries rewritten laid first_overlap first_pair ranges_of single_range entries_in file_patches new_headers changed_texts places_in removes rewriting segment_addr layout_of segment_patches segment_pieces segment_place segment_stop stop_of entry_bytes header_bytes word_bytes
+unfolding app spare shared ones dynamic_entries dynamic_table entry_of string_at strings_of table_of header_at headers memory_bytes memory_in range_in number_at named_text needs_of ask_needs_of asks_of aux_places_of def_places_of file_place file_words_of memory_number record_place verdef_place vernauxs verneed_place gnu_range symbol_count sysv_range count_in section_count sysv_place word_in words_in new_entries rewritten laid first_overlap first_pair ranges_of single_range entries_in file_patches new_headers changed_texts text_places removes rewriting segment_addr layout_of segment_patches segment_pieces segment_place segment_stop stop_of entry_bytes header_bytes word_bytes
 texts = refl
 
 place : segment_place app ≡ 4096
-unfolding app spare shared ones dynamic_entries dynamic_table entry_of string_at strings_of table_of header_at headers memory_bytes memory_in range_in number_at named_text needs_of ask_needs_of asks_of aux_places_of def_places_of file_place file_words_of memory_number record_place verdef_place vernauxs verneed_place gnu_range symbol_count sysv_range count_in section_count sysv_place word_in words_in new_entries rewritten laid first_overlap first_pair ranges_of single_range entries_in file_patches new_headers changed_texts places_in removes rewriting segment_addr layout_of segment_patches segment_pieces segment_place segment_stop stop_of entry_bytes header_bytes word_bytes
+unfolding app spare shared ones dynamic_entries dynamic_table entry_of string_at strings_of table_of header_at headers memory_bytes memory_in range_in number_at named_text needs_of ask_needs_of asks_of aux_places_of def_places_of file_place file_words_of memory_number record_place verdef_place vernauxs verneed_place gnu_range symbol_count sysv_range count_in section_count sysv_place word_in words_in new_entries rewritten laid first_overlap first_pair ranges_of single_range entries_in file_patches new_headers changed_texts text_places removes rewriting segment_addr layout_of segment_patches segment_pieces segment_place segment_stop stop_of entry_bytes header_bytes word_bytes
 place = refl
 
 no_stop : stop_of app wanted ≡ None
-unfolding app spare shared ones dynamic_entries dynamic_table entry_of string_at strings_of table_of header_at headers memory_bytes memory_in range_in number_at named_text needs_of ask_needs_of asks_of aux_places_of def_places_of file_place file_words_of memory_number record_place verdef_place vernauxs verneed_place gnu_range symbol_count sysv_range count_in section_count sysv_place word_in words_in new_entries rewritten laid first_overlap first_pair ranges_of single_range entries_in file_patches new_headers changed_texts places_in removes rewriting segment_addr layout_of segment_patches segment_pieces segment_place segment_stop stop_of entry_bytes header_bytes word_bytes
+unfolding app spare shared ones dynamic_entries dynamic_table entry_of string_at strings_of table_of header_at headers memory_bytes memory_in range_in number_at named_text needs_of ask_needs_of asks_of aux_places_of def_places_of file_place file_words_of memory_number record_place verdef_place vernauxs verneed_place gnu_range symbol_count sysv_range count_in section_count sysv_place word_in words_in new_entries rewritten laid first_overlap first_pair ranges_of single_range entries_in file_patches new_headers changed_texts text_places removes rewriting segment_addr layout_of segment_patches segment_pieces segment_place segment_stop stop_of entry_bytes header_bytes word_bytes
 no_stop = refl
 
 long : length_of (rewriting app wanted) ≡ 4560
-unfolding app spare shared ones dynamic_entries dynamic_table entry_of string_at strings_of table_of header_at headers memory_bytes memory_in range_in number_at named_text needs_of ask_needs_of asks_of aux_places_of def_places_of file_place file_words_of memory_number record_place verdef_place vernauxs verneed_place gnu_range symbol_count sysv_range count_in section_count sysv_place word_in words_in new_entries rewritten laid first_overlap first_pair ranges_of single_range entries_in file_patches new_headers changed_texts places_in removes rewriting segment_addr layout_of segment_patches segment_pieces segment_place segment_stop stop_of entry_bytes header_bytes word_bytes
+unfolding app spare shared ones dynamic_entries dynamic_table entry_of string_at strings_of table_of header_at headers memory_bytes memory_in range_in number_at named_text needs_of ask_needs_of asks_of aux_places_of def_places_of file_place file_words_of memory_number record_place verdef_place vernauxs verneed_place gnu_range symbol_count sysv_range count_in section_count sysv_place word_in words_in new_entries rewritten laid first_overlap first_pair ranges_of single_range entries_in file_patches new_headers changed_texts text_places removes rewriting segment_addr layout_of segment_patches segment_pieces segment_place segment_stop stop_of entry_bytes header_bytes word_bytes
 long = refl
 
 long_spare : length_of (rewriting spare wanted) ≡ 4413
-unfolding app spare shared ones dynamic_entries dynamic_table entry_of string_at strings_of table_of header_at headers memory_bytes memory_in range_in number_at named_text needs_of ask_needs_of asks_of aux_places_of def_places_of file_place file_words_of memory_number record_place verdef_place vernauxs verneed_place gnu_range symbol_count sysv_range count_in section_count sysv_place word_in words_in new_entries rewritten laid first_overlap first_pair ranges_of single_range entries_in file_patches new_headers changed_texts places_in removes rewriting segment_addr layout_of segment_patches segment_pieces segment_place segment_stop stop_of entry_bytes header_bytes word_bytes
+unfolding app spare shared ones dynamic_entries dynamic_table entry_of string_at strings_of table_of header_at headers memory_bytes memory_in range_in number_at named_text needs_of ask_needs_of asks_of aux_places_of def_places_of file_place file_words_of memory_number record_place verdef_place vernauxs verneed_place gnu_range symbol_count sysv_range count_in section_count sysv_place word_in words_in new_entries rewritten laid first_overlap first_pair ranges_of single_range entries_in file_patches new_headers changed_texts text_places removes rewriting segment_addr layout_of segment_patches segment_pieces segment_place segment_stop stop_of entry_bytes header_bytes word_bytes
 long_spare = refl
 
 overlap : stop_of shared wanted ≡ Some (TableOverlap 4 6)
-unfolding app spare shared ones dynamic_entries dynamic_table entry_of string_at strings_of table_of header_at headers memory_bytes memory_in range_in number_at named_text needs_of ask_needs_of asks_of aux_places_of def_places_of file_place file_words_of memory_number record_place verdef_place vernauxs verneed_place gnu_range symbol_count sysv_range count_in section_count sysv_place word_in words_in new_entries rewritten laid first_overlap first_pair ranges_of single_range entries_in file_patches new_headers changed_texts places_in removes rewriting segment_addr layout_of segment_patches segment_pieces segment_place segment_stop stop_of entry_bytes header_bytes word_bytes
+unfolding app spare shared ones dynamic_entries dynamic_table entry_of string_at strings_of table_of header_at headers memory_bytes memory_in range_in number_at named_text needs_of ask_needs_of asks_of aux_places_of def_places_of file_place file_words_of memory_number record_place verdef_place vernauxs verneed_place gnu_range symbol_count sysv_range count_in section_count sysv_place word_in words_in new_entries rewritten laid first_overlap first_pair ranges_of single_range entries_in file_patches new_headers changed_texts text_places removes rewriting segment_addr layout_of segment_patches segment_pieces segment_place segment_stop stop_of entry_bytes header_bytes word_bytes
 overlap = refl
 
 new_headers_fine : header_flaw (laid app (rewriting app wanted)) ≡ None
-unfolding app spare shared ones dynamic_entries dynamic_table entry_of string_at strings_of table_of header_at headers memory_bytes memory_in range_in number_at named_text needs_of ask_needs_of asks_of aux_places_of def_places_of file_place file_words_of memory_number record_place verdef_place vernauxs verneed_place gnu_range symbol_count sysv_range count_in section_count sysv_place word_in words_in new_entries rewritten laid first_overlap first_pair ranges_of single_range entries_in file_patches new_headers changed_texts places_in removes rewriting segment_addr layout_of segment_patches segment_pieces segment_place segment_stop stop_of entry_bytes header_bytes word_bytes ident_flaw word_flaw segment_flaw first_below header_flaw
+unfolding app spare shared ones dynamic_entries dynamic_table entry_of string_at strings_of table_of header_at headers memory_bytes memory_in range_in number_at named_text needs_of ask_needs_of asks_of aux_places_of def_places_of file_place file_words_of memory_number record_place verdef_place vernauxs verneed_place gnu_range symbol_count sysv_range count_in section_count sysv_place word_in words_in new_entries rewritten laid first_overlap first_pair ranges_of single_range entries_in file_patches new_headers changed_texts text_places removes rewriting segment_addr layout_of segment_patches segment_pieces segment_place segment_stop stop_of entry_bytes header_bytes word_bytes ident_flaw word_flaw segment_flaw first_below header_flaw
 new_headers_fine = refl
 
 new_path : named_text (laid app (rewriting app wanted)) DT_RUNPATH ≡ Some (codes "$ORIGIN/usr/lib")
-unfolding app spare shared ones dynamic_entries dynamic_table entry_of string_at strings_of table_of header_at headers memory_bytes memory_in range_in number_at named_text needs_of ask_needs_of asks_of aux_places_of def_places_of file_place file_words_of memory_number record_place verdef_place vernauxs verneed_place gnu_range symbol_count sysv_range count_in section_count sysv_place word_in words_in new_entries rewritten laid first_overlap first_pair ranges_of single_range entries_in file_patches new_headers changed_texts places_in removes rewriting segment_addr layout_of segment_patches segment_pieces segment_place segment_stop stop_of entry_bytes header_bytes word_bytes
+unfolding app spare shared ones dynamic_entries dynamic_table entry_of string_at strings_of table_of header_at headers memory_bytes memory_in range_in number_at named_text needs_of ask_needs_of asks_of aux_places_of def_places_of file_place file_words_of memory_number record_place verdef_place vernauxs verneed_place gnu_range symbol_count sysv_range count_in section_count sysv_place word_in words_in new_entries rewritten laid first_overlap first_pair ranges_of single_range entries_in file_patches new_headers changed_texts text_places removes rewriting segment_addr layout_of segment_patches segment_pieces segment_place segment_stop stop_of entry_bytes header_bytes word_bytes
 new_path = refl
 
 new_needs : needs_of (laid app (rewriting app wanted)) ≡ codes "libq.so.1" ∷ codes "libc.so.6" ∷ []
-unfolding app spare shared ones dynamic_entries dynamic_table entry_of string_at strings_of table_of header_at headers memory_bytes memory_in range_in number_at named_text needs_of ask_needs_of asks_of aux_places_of def_places_of file_place file_words_of memory_number record_place verdef_place vernauxs verneed_place gnu_range symbol_count sysv_range count_in section_count sysv_place word_in words_in new_entries rewritten laid first_overlap first_pair ranges_of single_range entries_in file_patches new_headers changed_texts places_in removes rewriting segment_addr layout_of segment_patches segment_pieces segment_place segment_stop stop_of entry_bytes header_bytes word_bytes
+unfolding app spare shared ones dynamic_entries dynamic_table entry_of string_at strings_of table_of header_at headers memory_bytes memory_in range_in number_at named_text needs_of ask_needs_of asks_of aux_places_of def_places_of file_place file_words_of memory_number record_place verdef_place vernauxs verneed_place gnu_range symbol_count sysv_range count_in section_count sysv_place word_in words_in new_entries rewritten laid first_overlap first_pair ranges_of single_range entries_in file_patches new_headers changed_texts text_places removes rewriting segment_addr layout_of segment_patches segment_pieces segment_place segment_stop stop_of entry_bytes header_bytes word_bytes
 new_needs = refl
 
 new_dynamic_fine : dynamic_flaw (laid app (rewriting app wanted)) ≡ None
-unfolding app spare shared ones dynamic_entries dynamic_table entry_of string_at strings_of table_of header_at headers memory_bytes memory_in range_in number_at named_text needs_of ask_needs_of asks_of aux_places_of def_places_of file_place file_words_of memory_number record_place verdef_place vernauxs verneed_place gnu_range symbol_count sysv_range count_in section_count sysv_place word_in words_in new_entries rewritten laid first_overlap first_pair ranges_of single_range entries_in file_patches new_headers changed_texts places_in removes rewriting segment_addr layout_of segment_patches segment_pieces segment_place segment_stop stop_of entry_bytes header_bytes word_bytes ident_flaw word_flaw segment_flaw first_below header_flaw dynamic_flaw place_flaw tags_flaw strings_flaw table_flaw entry_flaw missing_flaw symbol_flaw symbol_flaw_by hash_flaw count_flaw list_flaw first_lost sysv_table is_sysv_sound ends_in sysv_lists is_in_chain chain symbols_in symbol_of is_bindable version_flaw verdefs_flaw verneeds_flaw symbols_version_flaw V.index_flaw interp_of definitions_of indexed_names
+unfolding app spare shared ones dynamic_entries dynamic_table entry_of string_at strings_of table_of header_at headers memory_bytes memory_in range_in number_at named_text needs_of ask_needs_of asks_of aux_places_of def_places_of file_place file_words_of memory_number record_place verdef_place vernauxs verneed_place gnu_range symbol_count sysv_range count_in section_count sysv_place word_in words_in new_entries rewritten laid first_overlap first_pair ranges_of single_range entries_in file_patches new_headers changed_texts text_places removes rewriting segment_addr layout_of segment_patches segment_pieces segment_place segment_stop stop_of entry_bytes header_bytes word_bytes ident_flaw word_flaw segment_flaw first_below header_flaw dynamic_flaw place_flaw tags_flaw strings_flaw table_flaw entry_flaw missing_flaw symbol_flaw symbol_flaw_by hash_flaw count_flaw list_flaw first_lost sysv_table is_sysv_sound ends_in sysv_lists is_in_chain chain symbols_in symbol_of is_bindable version_flaw verdefs_flaw verneeds_flaw symbols_version_flaw V.index_flaw interp_of definitions_of indexed_names
 new_dynamic_fine = refl
 
 new_symbols_fine : symbol_flaw (laid app (rewriting app wanted)) ≡ None
-unfolding app spare shared ones dynamic_entries dynamic_table entry_of string_at strings_of table_of header_at headers memory_bytes memory_in range_in number_at named_text needs_of ask_needs_of asks_of aux_places_of def_places_of file_place file_words_of memory_number record_place verdef_place vernauxs verneed_place gnu_range symbol_count sysv_range count_in section_count sysv_place word_in words_in new_entries rewritten laid first_overlap first_pair ranges_of single_range entries_in file_patches new_headers changed_texts places_in removes rewriting segment_addr layout_of segment_patches segment_pieces segment_place segment_stop stop_of entry_bytes header_bytes word_bytes ident_flaw word_flaw segment_flaw first_below header_flaw dynamic_flaw place_flaw tags_flaw strings_flaw table_flaw entry_flaw missing_flaw symbol_flaw symbol_flaw_by hash_flaw count_flaw list_flaw first_lost sysv_table is_sysv_sound ends_in sysv_lists is_in_chain chain symbols_in symbol_of is_bindable version_flaw verdefs_flaw verneeds_flaw symbols_version_flaw V.index_flaw interp_of definitions_of indexed_names
+unfolding app spare shared ones dynamic_entries dynamic_table entry_of string_at strings_of table_of header_at headers memory_bytes memory_in range_in number_at named_text needs_of ask_needs_of asks_of aux_places_of def_places_of file_place file_words_of memory_number record_place verdef_place vernauxs verneed_place gnu_range symbol_count sysv_range count_in section_count sysv_place word_in words_in new_entries rewritten laid first_overlap first_pair ranges_of single_range entries_in file_patches new_headers changed_texts text_places removes rewriting segment_addr layout_of segment_patches segment_pieces segment_place segment_stop stop_of entry_bytes header_bytes word_bytes ident_flaw word_flaw segment_flaw first_below header_flaw dynamic_flaw place_flaw tags_flaw strings_flaw table_flaw entry_flaw missing_flaw symbol_flaw symbol_flaw_by hash_flaw count_flaw list_flaw first_lost sysv_table is_sysv_sound ends_in sysv_lists is_in_chain chain symbols_in symbol_of is_bindable version_flaw verdefs_flaw verneeds_flaw symbols_version_flaw V.index_flaw interp_of definitions_of indexed_names
 new_symbols_fine = refl
 
 new_versions_fine : version_flaw 1 (laid app (rewriting app wanted)) ≡ None
-unfolding app spare shared ones dynamic_entries dynamic_table entry_of string_at strings_of table_of header_at headers memory_bytes memory_in range_in number_at named_text needs_of ask_needs_of asks_of aux_places_of def_places_of file_place file_words_of memory_number record_place verdef_place vernauxs verneed_place gnu_range symbol_count sysv_range count_in section_count sysv_place word_in words_in new_entries rewritten laid first_overlap first_pair ranges_of single_range entries_in file_patches new_headers changed_texts places_in removes rewriting segment_addr layout_of segment_patches segment_pieces segment_place segment_stop stop_of entry_bytes header_bytes word_bytes ident_flaw word_flaw segment_flaw first_below header_flaw dynamic_flaw place_flaw tags_flaw strings_flaw table_flaw entry_flaw missing_flaw symbol_flaw symbol_flaw_by hash_flaw count_flaw list_flaw first_lost sysv_table is_sysv_sound ends_in sysv_lists is_in_chain chain symbols_in symbol_of is_bindable version_flaw verdefs_flaw verneeds_flaw symbols_version_flaw V.index_flaw interp_of definitions_of indexed_names
+unfolding app spare shared ones dynamic_entries dynamic_table entry_of string_at strings_of table_of header_at headers memory_bytes memory_in range_in number_at named_text needs_of ask_needs_of asks_of aux_places_of def_places_of file_place file_words_of memory_number record_place verdef_place vernauxs verneed_place gnu_range symbol_count sysv_range count_in section_count sysv_place word_in words_in new_entries rewritten laid first_overlap first_pair ranges_of single_range entries_in file_patches new_headers changed_texts text_places removes rewriting segment_addr layout_of segment_patches segment_pieces segment_place segment_stop stop_of entry_bytes header_bytes word_bytes ident_flaw word_flaw segment_flaw first_below header_flaw dynamic_flaw place_flaw tags_flaw strings_flaw table_flaw entry_flaw missing_flaw symbol_flaw symbol_flaw_by hash_flaw count_flaw list_flaw first_lost sysv_table is_sysv_sound ends_in sysv_lists is_in_chain chain symbols_in symbol_of is_bindable version_flaw verdefs_flaw verneeds_flaw symbols_version_flaw V.index_flaw interp_of definitions_of indexed_names
 new_versions_fine = refl
 
 old_path : interp_of (laid app (rewriting app wanted)) ≡ Some (codes "/lib64/ld-linux-x86-64.so.2")
-unfolding app spare shared ones dynamic_entries dynamic_table entry_of string_at strings_of table_of header_at headers memory_bytes memory_in range_in number_at named_text needs_of ask_needs_of asks_of aux_places_of def_places_of file_place file_words_of memory_number record_place verdef_place vernauxs verneed_place gnu_range symbol_count sysv_range count_in section_count sysv_place word_in words_in new_entries rewritten laid first_overlap first_pair ranges_of single_range entries_in file_patches new_headers changed_texts places_in removes rewriting segment_addr layout_of segment_patches segment_pieces segment_place segment_stop stop_of entry_bytes header_bytes word_bytes ident_flaw word_flaw segment_flaw first_below header_flaw dynamic_flaw place_flaw tags_flaw strings_flaw table_flaw entry_flaw missing_flaw symbol_flaw symbol_flaw_by hash_flaw count_flaw list_flaw first_lost sysv_table is_sysv_sound ends_in sysv_lists is_in_chain chain symbols_in symbol_of is_bindable version_flaw verdefs_flaw verneeds_flaw symbols_version_flaw V.index_flaw interp_of definitions_of indexed_names
+unfolding app spare shared ones dynamic_entries dynamic_table entry_of string_at strings_of table_of header_at headers memory_bytes memory_in range_in number_at named_text needs_of ask_needs_of asks_of aux_places_of def_places_of file_place file_words_of memory_number record_place verdef_place vernauxs verneed_place gnu_range symbol_count sysv_range count_in section_count sysv_place word_in words_in new_entries rewritten laid first_overlap first_pair ranges_of single_range entries_in file_patches new_headers changed_texts text_places removes rewriting segment_addr layout_of segment_patches segment_pieces segment_place segment_stop stop_of entry_bytes header_bytes word_bytes ident_flaw word_flaw segment_flaw first_below header_flaw dynamic_flaw place_flaw tags_flaw strings_flaw table_flaw entry_flaw missing_flaw symbol_flaw symbol_flaw_by hash_flaw count_flaw list_flaw first_lost sysv_table is_sysv_sound ends_in sysv_lists is_in_chain chain symbols_in symbol_of is_bindable version_flaw verdefs_flaw verneeds_flaw symbols_version_flaw V.index_flaw interp_of definitions_of indexed_names
 old_path = refl

@@ -27,7 +27,7 @@ use Rattle.elf_rewrite.specs.NewSegment.{headers_size, segment_addr, segment_pla
 use Rattle.elf_rewrite.specs.NewTable.{entries_in, grown_by, new_size, new_strings_at, old_size}
 use Rattle.elf_rewrite.specs.NewTexts.{is_done, new_texts, wants_segment}
 use Rattle.elf_rewrite.specs.Patched.{end_of, patched, range_of}
-use Rattle.elf_rewrite.specs.Pieces.{IsSound, Overlay, laid, length_of, put_together}
+use Rattle.elf_rewrite.specs.Pieces.{StaysWithin, Overlay, laid, length_of, put_together}
 use Rattle.elf_rewrite.specs.Ranges.{first_overlap}
 use Rattle.elf_rewrite.specs.Rewriting.{IsSmallLayout, file_for, file_patches, header_part, headers_by, layout_of, moved_by, new_segment, rewriting, segment_patches, segment_pieces, segment_size, strings_piece, table_part, table_pieces, table_start, table_written}
 use Rattle.elf_rewrite.specs.Stops.{ends_high, has_sections_outside, no_room, overlap_stop, segment_stop, stop_of, strings_too_long, too_large, too_many_headers}
@@ -206,7 +206,7 @@ has_room b change wants = record {
   alone = λ w d. absurd (cc);
 }
 
-pub wide_sound : (b : List ℕ) (change : Change) → HasSegment b change → IsSound (wide b change)
+pub wide_sound : (b : List ℕ) (change : Change) → HasSegment b change → StaysWithin (wide b change)
 unfolding segment_patches segment_pieces
 wide_sound b change h =
     let fine = (unflawed_parts b h.unflawed).headers in
@@ -224,7 +224,7 @@ wide_sound b change h =
       most = s.most;
     })
 
-pub laid_long : (b : List ℕ) (o : Overlay) → o.old_len ≡ length b → IsSound o → length (laid b o) ≡ length_of o
+pub laid_long : (b : List ℕ) (o : Overlay) → o.old_len ≡ length b → StaysWithin o → length (laid b o) ≡ length_of o
 unfolding laid
 laid_long b o same s =
     let fits : All (λ p. end_of p ≤ length b) o.patches = rw (← same) s.fits in
@@ -232,7 +232,7 @@ laid_long b o same s =
     let back = total_long o.old_len b o.added same s.within in
     omega (arith, length-append (patched b o.patches) (put_together b o.added))
 
-pub keeps_laid : (b : List ℕ) (o : Overlay) → o.old_len ≡ length b → IsSound o → KeepsBytes b (laid b o) (map range_of o.patches)
+pub keeps_laid : (b : List ℕ) (o : Overlay) → o.old_len ≡ length b → StaysWithin o → KeepsBytes b (laid b o) (map range_of o.patches)
 unfolding laid
 keeps_laid b o same s = patched_keeps b (put_together b o.added) o.patches (rw (← same) s.fits)
 

@@ -27,7 +27,7 @@ use Rattle.two_files.proofs.Entries.{tag_there}
 use Rattle.elf_rewrite.specs.NewTable.{grown_by, name_place, new_place, places_with}
 use Rattle.elf_rewrite.specs.NewTexts.{changed_name, changed_texts}
 use Rattle.elf_rewrite.specs.Patched.{end_of}
-use Rattle.elf_rewrite.specs.Pieces.{IsSound, is_within, total_size}
+use Rattle.elf_rewrite.specs.Pieces.{StaysWithin, is_within, total_size}
 use Rattle.elf_rewrite.specs.Rewriting.{IsSmallLayout, file_for, file_patch, file_patches, headers_by, padded, patches_by, pieces_by, strings_piece, table_patch, table_pieces, table_start}
 use Rattle.elf_rewrite.specs.Words.{entries_bytes, table_bytes, word}
 use Rattle.elf_rewrite.specs.declared.change.Change.{Change}
@@ -148,7 +148,7 @@ pieces_small b l segments strings new entries small =
 
 -- a segment that is added
 pub sound_segment : (b : List ℕ) (l : Layout) (count : ℕ) (files : List Patch) (entries : List Entry) (strings : Option Range) (new : List ℕ) → IsReadFrom (headers b) b → 64 ≤ length b → All (λ p. end_of p ≤ length b) files → (l.moved ≡ false → length entries ≤ dynamic_capacity b) → AreSmall b l (headers b) strings new entries
-    → IsSound (record { old_len = length b; patches = patches_by l count files (dynamic_capacity b) entries (find is_dynamic (headers b)); added = pieces_by (length b) l (headers b) strings new entries })
+    → StaysWithin (record { old_len = length b; patches = patches_by l count files (dynamic_capacity b) entries (find is_dynamic (headers b)); added = pieces_by (length b) l (headers b) strings new entries })
 sound_segment b l count files entries strings new r long fits room small = record {
   fits = All-cons (λ p. end_of p ≤ length b) (word 8 32 l.place) (word 2 56 (count + 1) ∷ (files ++ cond l.moved [] (table_patch (dynamic_capacity b) entries (find is_dynamic (headers b))))) (omega (arith, word_long 8 l.place))
       (All-cons (λ p. end_of p ≤ length b) (word 2 56 (count + 1)) (files ++ cond l.moved [] (table_patch (dynamic_capacity b) entries (find is_dynamic (headers b)))) (omega (arith, word_long 2 (count + 1)))
@@ -162,7 +162,7 @@ sound_segment b l count files entries strings new r long fits room small = recor
     go false e = table_fits b entries r (room e)
 
 -- a table that is written anew where it stood
-pub sound_table : (b : List ℕ) (entries : List Entry) → IsReadFrom (headers b) b → length b < 2 ^ 64 → length entries ≤ dynamic_capacity b → IsSound (record { old_len = length b; patches = table_patch (dynamic_capacity b) entries (find is_dynamic (headers b)); added = [] })
+pub sound_table : (b : List ℕ) (entries : List Entry) → IsReadFrom (headers b) b → length b < 2 ^ 64 → length entries ≤ dynamic_capacity b → StaysWithin (record { old_len = length b; patches = table_patch (dynamic_capacity b) entries (find is_dynamic (headers b)); added = [] })
 sound_table b entries r short room = record {
   fits = table_fits b entries r room;
   within = All-nil (λ p. is_within (length b) p ≡ true);

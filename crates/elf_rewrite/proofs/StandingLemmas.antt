@@ -20,7 +20,7 @@ use Rattle.load_model.specs.Escaping.{AreBytes}
 use Rattle.load_model.specs.VersionTables.{dynamic_value, text_of}
 use Rattle.strtab_grow.specs.declared.texts.TheConstants.{TABLE_LIMIT}
 use Rattle.two_files.specs.Entries.{tagged}
-use Rattle.elf_rewrite.specs.NewTable.{entries_in, grown_by, name_place, need_places, need_values, new_place, new_size, new_strings_at, old_size, place_instead, places_in}
+use Rattle.elf_rewrite.specs.NewTable.{entries_in, grown_by, name_place, need_places, need_values, new_place, new_size, new_strings_at, old_size, place_instead, text_places}
 use Rattle.elf_rewrite.specs.Patched.{end_of, patched, written}
 use Rattle.elf_rewrite.specs.Rewriting.{padded}
 use Rattle.elf_rewrite.specs.Words.{entries_bytes}
@@ -99,8 +99,8 @@ name_small b change old None v low e = absurd (cc)
 name_small b change None (Some t) v low e = let same = some_same (new_place (grown_by b change) t) v e in omega (arith, place_small (grown_by b change) t)
 name_small b change (Some at) (Some t) v low e = let same = some_same (place_instead b (grown_by b change) at t) v e in omega (arith, instead_small b change at t (low at refl))
 
-pub places_short : (b : List ℕ) (change : Change) → HasTable b → new_size b change < TABLE_LIMIT → new_strings_at b change < 256 ^ 8 → ArePlacesShort (places_in b change)
-unfolding places_in
+pub places_short : (b : List ℕ) (change : Change) → HasTable b → new_size b change < TABLE_LIMIT → new_strings_at b change < 256 ^ 8 → ArePlacesShort (text_places b change)
+unfolding text_places
 places_short b change t size at =
     let bad = none_bad (dynamic_entries b) (has_strings b t.strings).names in
     record {
@@ -120,7 +120,7 @@ old_short b bytes fine t = entries_short b t.segment bytes fine t.found (old_pla
 
 pub all_short : (b : List ℕ) (change : Change) → AreBytes b → header_flaw b ≡ None → HasTable b → new_size b change < TABLE_LIMIT → new_strings_at b change < 256 ^ 8 → All (λ e. IsShort e) (entries_in b change)
 all_short b change bytes fine t size at =
-    rw (entries_are b change) (new_short (places_in b change) (dynamic_entries b) (places_short b change t size at) (old_short b bytes fine t))
+    rw (entries_are b change) (new_short (text_places b change) (dynamic_entries b) (places_short b change t size at) (old_short b bytes fine t))
 
 value_short : (tag : ℕ) (xs : List Entry) → All (λ e. IsShort e) xs → unwrap_or (value_of tag xs) 0 < 256 ^ 8
 value_short tag [] all = omega arith

@@ -8,7 +8,7 @@ use Rattle.std.proofs.lemmas.List.Sorted.{sum_by-IsPermutation}
 use Rattle.std.proofs.lemmas.List.Sums.{sum_by-append, sum_by-cons}
 use Rattle.load_model.proofs.Places.{any_place}
 use Rattle.two_files.specs.Kept.{Range, covers}
-use Rattle.elf_rewrite.specs.Ranges.{NoneMeet, ascends, asked_ranges, first_overlap, first_pair, meets, need_ranges, overlaps, ranges_of, share, shares_within, table_in, tables, times_in}
+use Rattle.elf_rewrite.specs.Ranges.{NoneMeet, ascends, asked_ranges, first_overlap, first_pair, meets, need_ranges, overlaps, ranges_of, share, shares_within, ranges_of_table, tables, times_in}
 use Rattle.elf_rewrite.specs.declared.numbering.TheConstants.{SECTIONS, VERNEED}
 use Rattle.elf_rewrite.proofs.ApartLemmas.{all_pairs}
 use Rattle.elf_rewrite.proofs.TextSteps.{at_index}
@@ -118,13 +118,13 @@ is_numbered p = nat_le 1 p.0 && nat_le 1 p.1
 numbered : list_all is_numbered all_pairs ≡ true
 numbered = refl
 
-not_shared : (ts : List (List Range)) (m n : ℕ) → NoneMeet (joined ts) → is_numbered (m, n) ≡ true → (m == n) ≡ false → share (table_in ts m) (table_in ts n) ≡ false
-not_shared ts m n none h e = go (share (table_in ts m) (table_in ts n)) refl
+not_shared : (ts : List (List Range)) (m n : ℕ) → NoneMeet (joined ts) → is_numbered (m, n) ≡ true → (m == n) ≡ false → share (ranges_of_table ts m) (ranges_of_table ts n) ≡ false
+not_shared ts m n none h e = go (share (ranges_of_table ts m) (ranges_of_table ts n)) refl
   where
-    go : (s : Bool) → share (table_in ts m) (table_in ts n) ≡ s → share (table_in ts m) (table_in ts n) ≡ false
+    go : (s : Bool) → share (ranges_of_table ts m) (ranges_of_table ts n) ≡ s → share (ranges_of_table ts m) (ranges_of_table ts n) ≡ false
     go false t = t
     go true t = absurd (
-        let there = share_place (table_in ts m) (table_in ts n) t in
+        let there = share_place (ranges_of_table ts m) (ranges_of_table ts n) t in
         let other : (m - 1 == n - 1) ≡ false = grind (arith, nat_tests) in
         let both = two_among there.0 (m - 1) (n - 1) ts other in
         let once = none.once there.0 in
@@ -133,13 +133,13 @@ not_shared ts m n none h e = go (share (table_in ts m) (table_in ts n)) refl
         omega arith
         )
 
-none_within : (needs asked : List Range) (ts : List (List Range)) → NoneMeet (joined ts) → table_in ts VERNEED ≡ needs ++ asked → (shares_within needs || share needs asked) ≡ false
+none_within : (needs asked : List Range) (ts : List (List Range)) → NoneMeet (joined ts) → ranges_of_table ts VERNEED ≡ needs ++ asked → (shares_within needs || share needs asked) ≡ false
 none_within needs asked ts none e = go (shares_within needs) refl (share needs asked) refl
   where
     all : (i : ℕ) → times_in i needs + times_in i asked ≤ 1
     all i =
         let sum : times_in i (needs ++ asked) ≡ times_in i needs + times_in i asked = sum_by-append (hit i) needs asked in
-        let table : times_in i (table_in ts VERNEED) ≡ times_in i (needs ++ asked) = ap (λ l. times_in i l) e in
+        let table : times_in i (ranges_of_table ts VERNEED) ≡ times_in i (needs ++ asked) = ap (λ l. times_in i l) e in
         let least = one_among i 7 ts in
         let once = none.once i in
         omega arith
@@ -149,7 +149,7 @@ none_within needs asked ts none e = go (shares_within needs) refl (share needs a
     go false h true k = absurd (let there = share_place needs asked k in let most = all there.0 in let one = there.1 in let other = there.2 in omega arith)
     go false h false k = refl
 
-needs_table : (b : List ℕ) → table_in (tables b) VERNEED ≡ need_ranges b ++ asked_ranges b
+needs_table : (b : List ℕ) → ranges_of_table (tables b) VERNEED ≡ need_ranges b ++ asked_ranges b
 unfolding ranges_of
 needs_table b = refl
 
@@ -161,7 +161,7 @@ none_overlap b none =
     one : (m n : ℕ) → is_numbered (m, n) ≡ true → overlaps (tables b) (need_ranges b) (asked_ranges b) m n ≡ false
     one m n h = go (m == n) refl (m == VERNEED)
       where
-        go : (e : Bool) → (m == n) ≡ e → (v : Bool) → cond e (v && (shares_within (need_ranges b) || share (need_ranges b) (asked_ranges b))) (share (table_in (tables b) m) (table_in (tables b) n)) ≡ false
+        go : (e : Bool) → (m == n) ≡ e → (v : Bool) → cond e (v && (shares_within (need_ranges b) || share (need_ranges b) (asked_ranges b))) (share (ranges_of_table (tables b) m) (ranges_of_table (tables b) n)) ≡ false
         go false e v = not_shared (tables b) m n none h e
         go true e false = refl
         go true e true = none_within (need_ranges b) (asked_ranges b) (tables b) none (needs_table b)

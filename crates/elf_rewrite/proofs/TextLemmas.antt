@@ -19,7 +19,7 @@ use Rattle.load_model.proofs.TwoWorlds.{same_bytes}
 use Rattle.load_model.specs.Faces.{is_no_text, named_text, needs_of}
 use Rattle.load_model.specs.VersionTables.{ask_needs_of, ask_of, asks_of, dynamic_value, text_of, vernauxs, verneed_place, vn_file}
 use Rattle.path_text.specs.Path.{has_nul}
-use Rattle.strtab_grow.specs.Growth.{Growth, KeepsTexts as KeepsGrown, added, growth, place_from, stands_in}
+use Rattle.strtab_grow.specs.Growth.{Growth, PlacesTexts as KeepsGrown, added, growth, place_from, stands_in}
 use Rattle.strtab_grow.proofs.TextLaws.{keeps_texts}
 use Rattle.two_files.specs.Alike.{KeepsTags, KeepsTexts}
 use Rattle.two_files.specs.Entries.{new_entries}
@@ -27,9 +27,9 @@ use Rattle.two_files.proofs.Entries.{new_kept, new_needs, new_rpath, new_runpath
 use Rattle.two_files.proofs.Records.{text_same}
 use Rattle.two_files.proofs.Strings.{strings_long, texts_kept}
 use Rattle.elf_rewrite.specs.NewFile.{Fits, is_name_or_none, is_name_text}
-use Rattle.elf_rewrite.specs.NewTable.{entries_in, grown_by, name_place, need_places, need_values, new_place, new_size, new_strings_at, old_size, place_instead, places_in, places_with}
+use Rattle.elf_rewrite.specs.NewTable.{entries_in, grown_by, name_place, need_places, need_values, new_place, new_size, new_strings_at, old_size, place_instead, text_places, places_with}
 use Rattle.elf_rewrite.specs.NewTexts.{ask_files, changed, changed_name, changed_texts, new_texts}
-use Rattle.elf_rewrite.specs.Rewriting.{file_for, file_in}
+use Rattle.elf_rewrite.specs.Rewriting.{file_for, ask_file_in}
 use Rattle.elf_rewrite.specs.declared.change.Change.{Change}
 use Rattle.elf_rewrite.proofs.FileSteps.{place_below}
 use Rattle.elf_rewrite.proofs.TextSteps.{needs_counted, needs_listed}
@@ -41,12 +41,12 @@ pub record HasGrown (b : List ℕ) (change : Change) (c : List ℕ) : Type 0 whe
   pub size : strings_size (dynamic_entries c) ≡ new_size b change
   pub strings : strings_of c (headers c) (dynamic_entries c) ≡ strings_of b (headers b) (dynamic_entries b) ++ added (new_texts b change)
 
-pub entries_are : (b : List ℕ) (change : Change) → entries_in b change ≡ new_entries (places_in b change) (dynamic_entries b)
+pub entries_are : (b : List ℕ) (change : Change) → entries_in b change ≡ new_entries (text_places b change) (dynamic_entries b)
 unfolding entries_in
 entries_are b change = refl
 
-pub places_are : (b : List ℕ) (change : Change) → places_in b change ≡ places_with b change (new_strings_at b change)
-unfolding places_in
+pub places_are : (b : List ℕ) (change : Change) → text_places b change ≡ places_with b change (new_strings_at b change)
+unfolding text_places
 places_are b change = refl
 
 size_grows : (b : List ℕ) (change : Change) → old_size b ≤ new_size b change
@@ -58,7 +58,7 @@ grown_texts b change c e g =
 
 pub grown_tags : (b : List ℕ) (change : Change) (c : List ℕ) → HasGrown b change c → KeepsTags (dynamic_entries b) (dynamic_entries c)
 grown_tags b change c g = record {
-  tags = λ tag other. rw (g.entries, entries_are b change) (new_kept (places_in b change) tag (dynamic_entries b) other);
+  tags = λ tag other. rw (g.entries, entries_are b change) (new_kept (text_places b change) tag (dynamic_entries b) other);
 }
 
 -- a name that can be read where it stands
@@ -263,12 +263,12 @@ among_files b change t h =
 
 -- needs, the soname and the run path of the new file
 pub record ReadsNames (b : List ℕ) (change : Change) (c : List ℕ) : Type 0 where
-  pub needs : ReadsAll b change c (places_in b change).needs change.needs
-  pub soname : ReadsName b change c (places_in b change).soname change.soname
-  pub runpath : ReadsName b change c (places_in b change).runpath change.runpath
+  pub needs : ReadsAll b change c (text_places b change).needs change.needs
+  pub soname : ReadsName b change c (text_places b change).soname change.soname
+  pub runpath : ReadsName b change c (text_places b change).runpath change.runpath
 
 pub names_read : (b : List ℕ) (change : Change) (c : List ℕ) → strings_flaw b (headers b) (dynamic_entries b) ≡ None → Fits change b → HasGrown b change c → ReadsNames b change c
-unfolding places_in named_text
+unfolding text_places named_text
 names_read b change c e fits g =
     let k = grown_texts b change c e g in
     let s = has_strings b e in
@@ -281,8 +281,8 @@ names_read b change c e fits g =
 
 pub needs_are : (b : List ℕ) (change : Change) (c : List ℕ) → Fits change b → HasGrown b change c → ReadsNames b change c → needs_of c ≡ change.needs
 needs_are b change c fits g r =
-    let counted : length (places_in b change).needs ≡ length (filter (λ e. e.tag == DT_NEEDED) (dynamic_entries b)) = count in
-    let values : need_values (dynamic_entries c) ≡ (places_in b change).needs = rw (g.entries, entries_are b change) (new_needs (places_in b change) (dynamic_entries b) counted) in
+    let counted : length (text_places b change).needs ≡ length (filter (λ e. e.tag == DT_NEEDED) (dynamic_entries b)) = count in
+    let values : need_values (dynamic_entries c) ≡ (text_places b change).needs = rw (g.entries, entries_are b change) (new_needs (text_places b change) (dynamic_entries b) counted) in
     sym (needs_listed c) ∙ (ap (λ l. map (text_of c) l) values ∙ r.needs.texts_are)
   where
     mapped_long : (c : List ℕ) (xs : List ℕ) → length (map (λ at. text_of c at) xs) ≡ length xs
@@ -293,19 +293,19 @@ needs_are b change c fits g r =
     valued_long [] = refl
     valued_long (x ∷ xs) = ap suc (valued_long xs)
 
-    count : length (places_in b change).needs ≡ length (filter (λ e. e.tag == DT_NEEDED) (dynamic_entries b))
+    count : length (text_places b change).needs ≡ length (filter (λ e. e.tag == DT_NEEDED) (dynamic_entries b))
     count =
-        let a = sym (mapped_long c (places_in b change).needs) ∙ ap length r.needs.texts_are in
+        let a = sym (mapped_long c (text_places b change).needs) ∙ ap length r.needs.texts_are in
         let d = valued_long (filter (λ e. e.tag == DT_NEEDED) (dynamic_entries b)) in
         omega (arith, a, d, needs_counted b change fits)
 
 pub soname_is : (b : List ℕ) (change : Change) (c : List ℕ) → Fits change b → HasGrown b change c → ReadsNames b change c → named_text c DT_SONAME ≡ change.soname
 unfolding named_text
 soname_is b change c fits g r =
-    let value : dynamic_value c DT_SONAME ≡ cond (has_tag DT_SONAME (dynamic_entries b)) (places_in b change).soname None = rw (g.entries, entries_are b change) (new_soname (places_in b change) (dynamic_entries b)) in
+    let value : dynamic_value c DT_SONAME ≡ cond (has_tag DT_SONAME (dynamic_entries b)) (text_places b change).soname None = rw (g.entries, entries_are b change) (new_soname (text_places b change) (dynamic_entries b)) in
     ap (λ o. option_map (text_of c) o) value ∙ go (has_tag DT_SONAME (dynamic_entries b)) refl change.soname refl
   where
-    go : (t : Bool) → has_tag DT_SONAME (dynamic_entries b) ≡ t → (o : Option (List ℕ)) → change.soname ≡ o → option_map (text_of c) (cond t (places_in b change).soname None) ≡ change.soname
+    go : (t : Bool) → has_tag DT_SONAME (dynamic_entries b) ≡ t → (o : Option (List ℕ)) → change.soname ≡ o → option_map (text_of c) (cond t (text_places b change).soname None) ≡ change.soname
     go true e o s = r.soname.text_is
     go false e None s = sym s
     go false e (Some t) s = absurd (
@@ -322,13 +322,13 @@ soname_is b change c fits g r =
 pub rpath_is : (b : List ℕ) (change : Change) (c : List ℕ) → HasGrown b change c → named_text c DT_RPATH ≡ None
 unfolding named_text
 rpath_is b change c g =
-    let value : dynamic_value c DT_RPATH ≡ None = rw (g.entries, entries_are b change) (new_rpath (places_in b change) (dynamic_entries b)) in
+    let value : dynamic_value c DT_RPATH ≡ None = rw (g.entries, entries_are b change) (new_rpath (text_places b change) (dynamic_entries b)) in
     ap (λ o. option_map (text_of c) o) value
 
 pub runpath_is : (b : List ℕ) (change : Change) (c : List ℕ) → HasGrown b change c → ReadsNames b change c → named_text c DT_RUNPATH ≡ change.runpath
 unfolding named_text
 runpath_is b change c g r =
-    let value : dynamic_value c DT_RUNPATH ≡ (places_in b change).runpath = rw (g.entries, entries_are b change) (new_runpath (places_in b change) (dynamic_entries b)) in
+    let value : dynamic_value c DT_RUNPATH ≡ (text_places b change).runpath = rw (g.entries, entries_are b change) (new_runpath (text_places b change) (dynamic_entries b)) in
     ap (λ o. option_map (text_of c) o) value ∙ r.runpath.text_is
 
 -- the files of which versions are needed
@@ -340,7 +340,7 @@ pub record HasFile (b : List ℕ) (change : Change) (k : ℕ) (p : List ℕ × L
 abbrev file_names : List ℕ → List (ℕ × ℕ) → List (List ℕ)
 file_names b xs = map (λ a. a.file) (map (λ a. ask_of b (verneed_place b a.0) a.1) xs)
 
-file_found : (b : List ℕ) (change : Change) (k : ℕ) (p : List ℕ × List ℕ) (xs : List (ℕ × ℕ)) (news : List (List ℕ)) → file_in (map (λ a. a.0) xs) (file_names b xs) news k ≡ Some p → list_all is_name_text news ≡ true → AreAmong (changed (file_names b xs) news) (changed_texts b change) → HasFile b change k p
+file_found : (b : List ℕ) (change : Change) (k : ℕ) (p : List ℕ × List ℕ) (xs : List (ℕ × ℕ)) (news : List (List ℕ)) → ask_file_in (map (λ a. a.0) xs) (file_names b xs) news k ≡ Some p → list_all is_name_text news ≡ true → AreAmong (changed (file_names b xs) news) (changed_texts b change) → HasFile b change k p
 file_found b change k p [] news e names among = absurd (cc)
 file_found b change k p (x ∷ xs) [] e names among = absurd (cc)
 file_found b change k p (x ∷ xs) (n ∷ news) e names among =
@@ -351,7 +351,7 @@ file_found b change k p (x ∷ xs) (n ∷ news) e names among =
     (λ h. among n (more_changed o n (file_names b xs) news n (rw h (stands_first n []))))
   where
     go : (t : Bool) → (x.0 == k) ≡ t → option_map (λ q. q.1) (cond t (Some (x.0, (text_of b (vn_file b (verneed_place b x.0)), n))) (find (λ q. q.0 == k) (zip (map (λ a. a.0) xs) (zip (file_names b xs) news)))) ≡ Some p → is_name_text n ≡ true
-        → (file_in (map (λ a. a.0) xs) (file_names b xs) news k ≡ Some p → HasFile b change k p)
+        → (ask_file_in (map (λ a. a.0) xs) (file_names b xs) news k ≡ Some p → HasFile b change k p)
         → (bytes_eq (text_of b (vn_file b (verneed_place b x.0))) n ≡ false → stands_in n (changed_texts b change) ≡ true) → HasFile b change k p
     go false s e name later here = later e
     go true s e name later here =

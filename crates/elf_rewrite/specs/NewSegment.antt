@@ -17,15 +17,15 @@ addr_above page len segments None = 0
 addr_above page len segments (Some s) = next_multiple_of
     (max (top_of segments) (len + s.vaddr - s.offset)) page
 
-abbrev pub place_at : ℕ → Option Segment → ℕ
-place_at addr None = 0
-place_at addr (Some s) = addr + s.offset - s.vaddr
+abbrev pub segment_place_at : ℕ → Option Segment → ℕ
+segment_place_at addr None = 0
+segment_place_at addr (Some s) = addr + s.offset - s.vaddr
 
 unfoldable pub segment_addr : List ℕ → ℕ
 segment_addr b = addr_above PAGE (length b) (headers b) (find is_load (headers b))
 
 unfoldable pub segment_place : List ℕ → ℕ
-segment_place b = place_at (segment_addr b) (find is_load (headers b))
+segment_place b = segment_place_at (segment_addr b) (find is_load (headers b))
 
 -- The size of its first part, the program headers.
 abbrev pub headers_size : List ℕ → ℕ

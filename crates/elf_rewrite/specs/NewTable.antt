@@ -59,8 +59,8 @@ abbrev pub new_strings_at : List ℕ → Change → ℕ
 new_strings_at b change = cond (wants_segment b change) (segment_addr b + headers_size b)
     (strings_at (dynamic_entries b))
 
-unfoldable pub places_in : List ℕ → Change → Places
-places_in b change = places_with b change (new_strings_at b change)
+unfoldable pub text_places : List ℕ → Change → Places
+text_places b change = places_with b change (new_strings_at b change)
 
 unfoldable pub entries_in : List ℕ → Change → List Entry
-entries_in b change = new_entries (places_in b change) (dynamic_entries b)
+entries_in b change = new_entries (text_places b change) (dynamic_entries b)

@@ -45,7 +45,7 @@ unfoldable pub laid : List ℕ → Overlay → List ℕ
 laid b o = patched b o.patches ++ put_together b o.added
 
 -- Nothing is written past the old bytes, nor taken from there.
-pub record IsSound (o : Overlay) : Type 0 where
+pub record StaysWithin (o : Overlay) : Type 0 where
   pub fits : All (λ p. end_of p ≤ o.old_len) o.patches
   pub within : All (λ p. is_within o.old_len p ≡ true) o.added
   pub small : length_of o < 2 ^ 64

@@ -70,8 +70,8 @@ ranges_of b n =
 abbrev pub tables : List ℕ → List (List Range)
 tables b = map (λ n. ranges_of b n) (range_with_len HEADER SECTIONS)
 
-abbrev pub table_in : List (List Range) → ℕ → List Range
-table_in ts n = slice_index_or ts (n - 1) []
+abbrev pub ranges_of_table : List (List Range) → ℕ → List Range
+ranges_of_table ts n = slice_index_or ts (n - 1) []
 
 -- They share a place.
 abbrev pub meets : Range → Range → Bool
@@ -102,7 +102,7 @@ shares_within (r ∷ more) = list_any (λ s. meets r s) more || shares_within mo
 abbrev pub overlaps : List (List Range) → List Range → List Range → ℕ → ℕ → Bool
 overlaps ts needs asked m n =
     cond (m == n) ((m == VERNEED) && (shares_within needs || share needs asked))
-    (share (table_in ts m) (table_in ts n))
+    (share (ranges_of_table ts m) (ranges_of_table ts n))
 
 -- The tables that one is looked at beside, itself and those above it.
 abbrev pub beside : ℕ → List ℕ

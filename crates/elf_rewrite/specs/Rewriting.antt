@@ -14,7 +14,7 @@ use Rattle.load_model.specs.VersionTables.{ask_needs_of, file_words_of}
 use Rattle.strtab_grow.specs.Growth.{Growth, added}
 use Rattle.two_files.specs.Entries.{tagged}
 use Rattle.two_files.specs.Kept.{Range}
-use Rattle.two_files.specs.NewHeaders.{Part, add_load, move_header}
+use Rattle.two_files.specs.NewHeaders.{SegmentPart, add_load, move_header}
 use Rattle.elf_rewrite.specs.NewSegment.{headers_size, segment_addr, segment_place}
 use Rattle.elf_rewrite.specs.NewTable.{entries_in, grown_by, new_place, new_size, old_size}
 use Rattle.elf_rewrite.specs.NewTexts.{ask_files, is_done, new_texts, wants_segment}
@@ -47,14 +47,14 @@ layout_of b change = layout_by b (new_size b change) (length (entries_in b chang
 abbrev pub table_start : Layout → ℕ
 table_start l = next_multiple_of l.strings_end 8
 
-abbrev pub table_part : Layout → Part
+abbrev pub table_part : Layout → SegmentPart
 table_part l = record {
   offset = l.place + table_start l;
   addr = l.addr + table_start l;
   size = l.table_size;
 }
 
-abbrev pub header_part : Layout → Part
+abbrev pub header_part : Layout → SegmentPart
 header_part l = record { offset = l.place; addr = l.addr; size = l.headers_size }
 
 abbrev pub segment_size : Layout → ℕ
@@ -90,11 +90,12 @@ unfoldable pub new_headers : List ℕ → Change → List Segment
 new_headers b change = headers_by (layout_of b change) (headers b)
 
 -- The old and the new file of a need, by its first ask.
-abbrev pub file_in : List ℕ → List (List ℕ) → List (List ℕ) → ℕ → Option (List ℕ × List ℕ)
-file_in needs olds news k = option_map (λ p. p.1) (find (λ p. p.0 == k) (zip needs (zip olds news)))
+abbrev pub ask_file_in : List ℕ → List (List ℕ) → List (List ℕ) → ℕ → Option (List ℕ × List ℕ)
+ask_file_in needs olds news k =
+    option_map (λ p. p.1) (find (λ p. p.0 == k) (zip needs (zip olds news)))
 
 abbrev pub file_for : List ℕ → Change → ℕ → Option (List ℕ × List ℕ)
-file_for b change k = file_in (ask_needs_of b) (ask_files b) change.files k
+file_for b change k = ask_file_in (ask_needs_of b) (ask_files b) change.files k
 
 -- Where it changes, the word at a place names the new one.
 abbrev pub file_patch : Growth → ℕ → Option (List ℕ × List ℕ) → List Patch

@@ -2,7 +2,7 @@
 //! `specs/Pieces.antt`.
 
 ghost use Rattle.std.specs.Prelude.{◌≡◌, length, take};
-ghost use Rattle.elf_rewrite.specs.Pieces.{Overlay, IsSound, laid, length_of};
+ghost use Rattle.elf_rewrite.specs.Pieces.{Overlay, StaysWithin, laid, length_of};
 
 use crate::apply::apply_all;
 use crate::fill::{fill_pieces, total_size};
@@ -19,13 +19,13 @@ pub struct Edit {
 }
 
 impl Model for Edit {
-    ghost use Rattle.elf_rewrite.specs.Pieces.{Overlay, IsSound};
+    ghost use Rattle.elf_rewrite.specs.Pieces.{Overlay, StaysWithin};
 
     ghost Value = { Overlay };
 
     ghost view = { λ e. record { old_len = e.old_len; patches = e.patches; added = e.added } };
 
-    ghost invariant = { λ e. IsSound (record {
+    ghost invariant = { λ e. StaysWithin (record {
       old_len = e.old_len;
       patches = e.patches;
       added = e.added;
@@ -34,7 +34,7 @@ impl Model for Edit {
 
 impl Edit {
     pub(crate) fn new(old_len: usize, patches: List<Patch>, added: List<Piece>) -> Edit
-        requires { IsSound (record { old_len = old_len; patches = patches; added = added }) }
+        requires { StaysWithin (record { old_len = old_len; patches = patches; added = added }) }
         ensures { result ≡ record { old_len = old_len; patches = patches; added = added } }
     {
         Edit {

@@ -6,7 +6,7 @@
 ghost use Rattle.std.specs.Prelude.{◌≡◌, ◌<◌, ◌++◌, IfOk, OnOk, Some, length, map};
 ghost use Rattle.std.specs.List.{enumerate_from, flat_map};
 ghost use Rattle.strtab_grow.specs.Growth.{size_of};
-ghost use Rattle.elf_rewrite.specs.Rewriting.{file_in, file_patch};
+ghost use Rattle.elf_rewrite.specs.Rewriting.{ask_file_in, file_patch};
 ghost use Rattle.strtab_grow.specs.declared.texts.TheConstants.{TABLE_LIMIT};
 
 use crate::patch::Patch;
@@ -30,7 +30,7 @@ pub(crate) fn push_files(
     requires asks { length versions.now.ask_needs ≡ length versions.now.asks }
     requires files { length versions.now.ask_needs ≡ length files.now }
     ensures { OnOk result (patches.new ≡ patches.old ++ flat_map
-        (λ p. file_patch grown.now p.1 (file_in versions.now.ask_needs
+        (λ p. file_patch grown.now p.1 (ask_file_in versions.now.ask_needs
         (map (λ a. a.file) versions.now.asks) files.now p.0))
         (enumerate_from 0 versions.now.file_words)) }
 {
@@ -58,7 +58,7 @@ fn push_file(
     requires asks { length needs.now ≡ length asks.now }
     requires files { length needs.now ≡ length files.now }
     ensures { OnOk result (patches.new ≡ patches.old ++ file_patch grown.now at
-        (file_in needs.now (map (λ a. a.file) asks.now) files.now k)) }
+        (ask_file_in needs.now (map (λ a. a.file) asks.now) files.now k)) }
 {
     for i in 0..needs.len() {
         let need = needs[i] as usize;

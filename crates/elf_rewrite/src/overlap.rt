@@ -14,7 +14,7 @@ ghost use Rattle.load_model.specs.SymbolFlaws.{symbol_count};
 ghost use Rattle.load_model.specs.SymbolTable.{symbols_at};
 ghost use Rattle.sym_tables.specs.ReadSymbols.{IsSymsOf};
 ghost use Rattle.version_tables.specs.VersionLists.{IsVersionsOf};
-ghost use Rattle.elf_rewrite.specs.Ranges.{NoneMeet, ascends, beside, first_overlap, first_pair, from_place, meets, overlaps, ranges_of, section_range, segment_range, share, shares_within, single_range, table_in, table_range, where_known};
+ghost use Rattle.elf_rewrite.specs.Ranges.{NoneMeet, ascends, beside, first_overlap, first_pair, from_place, meets, overlaps, ranges_of, section_range, segment_range, share, shares_within, single_range, ranges_of_table, table_range, where_known};
 
 use crate::numbering::{
     DYNAMIC, GNU_HASH, HASH, HEADER, INTERP, SECTIONS, SEGMENTS, STRINGS, SYMBOLS, VERDEF, VERNEED,
@@ -132,12 +132,12 @@ fn overlaps(tables: &[List<Range>], needs: &[Range], asked: &[Range], m: u8, n: 
     if m == n {
         m == VERNEED && (shares_within(needs) || share(needs, asked))
     } else {
-        share(table_in(tables, m), table_in(tables, n))
+        share(ranges_of_table(tables, m), ranges_of_table(tables, n))
     }
 }
 
-fn table_in(tables: &[List<Range>], n: u8) -> &[Range]
-    ensures { result.now ≡ table_in tables.now n }
+fn ranges_of_table(tables: &[List<Range>], n: u8) -> &[Range]
+    ensures { result.now ≡ ranges_of_table tables.now n }
 {
     match tables.get((n.saturating_sub(1)) as usize) {
         Some(table) => table.as_slice(),

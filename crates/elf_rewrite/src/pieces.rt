@@ -10,7 +10,7 @@ ghost use Rattle.byte_view.specs.declared.constants.TheConstants.{DT_NULL};
 ghost use Rattle.strtab_grow.specs.Growth.{added, size_of};
 ghost use Rattle.strtab_grow.specs.declared.texts.TheConstants.{TABLE_LIMIT};
 ghost use Rattle.two_files.specs.Entries.{tagged};
-ghost use Rattle.elf_rewrite.specs.Rewriting.{IsSmallLayout, file_in, file_patch, padded, patches_by, pieces_by, strings_piece, table_patch, table_pieces};
+ghost use Rattle.elf_rewrite.specs.Rewriting.{IsSmallLayout, ask_file_in, file_patch, padded, patches_by, pieces_by, strings_piece, table_patch, table_pieces};
 ghost use Rattle.elf_rewrite.specs.Words.{entries_bytes};
 
 use crate::entries::{end, pad};
@@ -45,7 +45,7 @@ pub(crate) fn segment_patches(
     requires asks { length versions.now.ask_needs ≡ length versions.now.asks }
     requires files { length versions.now.ask_needs ≡ length files.now }
     ensures { IfOk result (λ ps. ps ≡ patches_by layout.now (length segments.now)
-        (flat_map (λ p. file_patch grown.now p.1 (file_in versions.now.ask_needs
+        (flat_map (λ p. file_patch grown.now p.1 (ask_file_in versions.now.ask_needs
         (map (λ a. a.file) versions.now.asks) files.now p.0))
         (enumerate_from 0 versions.now.file_words)) capacity entries.items
         (find is_dynamic segments.now)) }

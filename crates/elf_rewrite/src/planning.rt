@@ -34,7 +34,7 @@ use crate::overlap::first_overlap;
 use crate::pieces::{push_table, segment_patches, segment_pieces};
 use crate::places::{NewPlaces, name_place, need_places, need_values};
 use crate::room::{lacks_header, lacks_room};
-use crate::segments::{addr_above, place_at};
+use crate::segments::{addr_above, segment_place_at};
 use crate::texts::{changed_texts, removes};
 use byte_view::Entry;
 use byte_view::constants::{DT_RUNPATH, DT_SONAME, DT_STRTAB, LONGEST_FILE};
@@ -259,7 +259,7 @@ fn layout_with(
 {
     let headers_size = headers_size(segments, bytes);
     Layout {
-        place: place_at(segments, bytes, addr),
+        place: segment_place_at(segments, bytes, addr),
         addr,
         headers_size,
         strings_end: headers_size + strings_size,

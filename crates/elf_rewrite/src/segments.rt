@@ -9,7 +9,7 @@ ghost use Rattle.byte_view.specs.Headers.{is_load, memory_end};
 ghost use Rattle.byte_view.specs.Sound.{IsReadFrom};
 ghost use Rattle.byte_view.specs.declared.constants.TheConstants.{LONGEST_FILE};
 ghost use Rattle.two_files.specs.NewHeaders.{moved_to};
-ghost use Rattle.elf_rewrite.specs.NewSegment.{addr_above, place_at, top_of};
+ghost use Rattle.elf_rewrite.specs.NewSegment.{addr_above, segment_place_at, top_of};
 ghost use Rattle.elf_rewrite.specs.Rewriting.{IsSmallLayout, headers_by, moved_by, new_segment, segment_size};
 ghost use Rattle.elf_rewrite.specs.Stops.{ends_high};
 
@@ -80,11 +80,11 @@ pub(crate) fn addr_above(segments: &[Segment], len: usize) -> u64
 
 /// Where a segment at this address begins in the file.
 #[tactic(auto, using(crate::proofs::Lowness::load_within))]
-pub(crate) fn place_at(segments: &[Segment], bytes: &[u8], addr: u64) -> u64
+pub(crate) fn segment_place_at(segments: &[Segment], bytes: &[u8], addr: u64) -> u64
     requires headers { IsReadFrom segments.now bytes.now }
     requires addr { addr ≤ HIGHEST_OLD_END + HIGHEST_OLD_END }
     requires short { length bytes.now ≤ LONGEST_FILE }
-    ensures place { result ≡ place_at addr (find is_load segments.now) }
+    ensures place { result ≡ segment_place_at addr (find is_load segments.now) }
     ensures low { result < 2 ^ 63 }
 {
     match first(segments, PT_LOAD) {

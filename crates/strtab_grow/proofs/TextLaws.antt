@@ -8,7 +8,7 @@ use Rattle.std.proofs.lemmas.Bool.Decides.{nat_tests}
 use Rattle.std.proofs.lemmas.List.{drop_at, drop-append-le, get_or-drop}
 use Rattle.std.proofs.lemmas.Slice.Eq.{bytes_eq-Decides}
 use Rattle.byte_view.specs.Dynamic.{text_in}
-use Rattle.strtab_grow.specs.Growth.{stored, added, stands_in, once, once_after, place_from, growth, KeepsTexts}
+use Rattle.strtab_grow.specs.Growth.{stored, added, stands_in, once, once_after, place_from, growth, PlacesTexts}
 
 took : (n x : ℕ) (xs : List ℕ) → take (1 + n) (x ∷ xs) ≡ x ∷ take n xs
 took n x xs = ap (λ k. take k (x ∷ xs)) one
@@ -122,7 +122,7 @@ has_place at t (s ∷ more) h = place_case (bytes_eq s t) at t s more refl h (λ
 pub text_placed : (old_size : ℕ) (t : List ℕ) (texts : List (List ℕ)) → stands_in t texts ≡ true → is_some (place_from old_size t (once texts)) ≡ true
 text_placed old_size t texts h = has_place old_size t (once texts) (kept_once t [] texts h)
 
-pub keeps_texts : (old_size : ℕ) (texts : List (List ℕ)) → KeepsTexts (growth old_size texts) texts
+pub keeps_texts : (old_size : ℕ) (texts : List (List ℕ)) → PlacesTexts (growth old_size texts) texts
 keeps_texts old_size texts = record {
   placed = λ t h. text_placed old_size t texts h;
   reads = λ strings t p e clean h. place_reads old_size strings (once texts) t p (sym e) clean h;

@@ -55,7 +55,7 @@ pub record IsSmall (size : ℕ) (g : Growth) : Type 0 where
   pub below : size < TABLE_LIMIT
 
 -- What a growth by these texts promises of every old table of its size.
-pub record KeepsTexts (g : Growth) (texts : List (List ℕ)) : Type 0 where
+pub record PlacesTexts (g : Growth) (texts : List (List ℕ)) : Type 0 where
   pub placed : (t : List ℕ) → stands_in t texts ≡ true → is_some (place_from g.old_size t g.texts)
       ≡ true
   pub reads : (strings t : List ℕ) (p : ℕ) → length strings ≡ g.old_size → has_nul t ≡ false

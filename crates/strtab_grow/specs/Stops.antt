@@ -4,6 +4,6 @@ use Rattle.strtab_grow.specs.declared.grown.GrowStop.{GrowStop}
 use Rattle.strtab_grow.specs.declared.grown.GrowStop.TheVariants.{TooLong, NoMemory}
 
 -- Want of memory names none.
-abbrev pub stop_named : GrowStop → Option GrowStop
-stop_named TooLong = Some TooLong
-stop_named NoMemory = None
+abbrev pub grow_stop_named : GrowStop → Option GrowStop
+grow_stop_named TooLong = Some TooLong
+grow_stop_named NoMemory = None

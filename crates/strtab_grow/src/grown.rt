@@ -5,8 +5,8 @@
 ghost use Rattle.std.specs.Prelude.{◌≡◌, ◌<◌, nat_le, length, IfOk};
 ghost use Rattle.answers.specs.Answers.{TellsBy};
 ghost use Rattle.answers.specs.First.{some_where};
-ghost use Rattle.strtab_grow.specs.Growth.{Growth, growth, added, place_from, size_of, once, KeepsTexts};
-ghost use Rattle.strtab_grow.specs.Stops.{stop_named};
+ghost use Rattle.strtab_grow.specs.Growth.{Growth, growth, added, place_from, size_of, once, PlacesTexts};
+ghost use Rattle.strtab_grow.specs.Stops.{grow_stop_named};
 
 use crate::texts::{TABLE_LIMIT, holds, put_text, size_with};
 use load_model::{Name, NoMemory};
@@ -48,11 +48,12 @@ impl Grown {
     /// Adds texts to a table of a size, each text once.
     #[tactic(auto, using(crate::proofs::TextLaws::keeps_texts))]
     pub fn plan(alloc: Global, old_size: u64, texts: &[Name]) -> Result<Grown, GrowStop>
-        ensures stop { let size = size_of (growth old_size texts.now) in TellsBy stop_named result
+        ensures stop { let size = size_of (growth old_size texts.now) in
+            TellsBy grow_stop_named result
             (some_where (nat_le TABLE_LIMIT size) GrowStop.TooLong) }
         ensures value { IfOk result (λ g. g ≡ growth old_size texts.now) }
         ensures small { IfOk result (λ g. size_of g < TABLE_LIMIT) }
-        ensures texts { IfOk result (λ g. KeepsTexts g texts.now) }
+        ensures texts { IfOk result (λ g. PlacesTexts g texts.now) }
     {
         let Ok(texts) = each_once(alloc, texts) else {
             return Err(GrowStop::NoMemory);

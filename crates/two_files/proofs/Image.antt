@@ -12,7 +12,7 @@ use Rattle.byte_view.specs.declared.segments.Segment.{Segment}
 use Rattle.byte_view.proofs.Backed.{load_sizes}
 use Rattle.byte_view.proofs.Found.{find_all, find_passes, only_is_find}
 use Rattle.byte_view.proofs.Loads.{sound_file}
-use Rattle.two_files.specs.Kept.{KeepsBytes, Range, SameImage, is_left, place_of}
+use Rattle.two_files.specs.Kept.{KeepsBytes, Range, SameImage, is_left, file_place_of}
 use Rattle.two_files.specs.NewHeaders.{AddsLoad}
 
 -- what holds an address is a LOAD
@@ -49,14 +49,14 @@ guarded n m x y h = go (nat_lt n m) refl
     go true t = h (grind (arith, nat_tests))
     go false t = refl
 
-left_byte : (b c : List ℕ) (written : List Range) (addr : ℕ) (s : Segment) → KeepsBytes b c written → s.vaddr ≤ addr → file_end s ≤ length b → (addr - s.vaddr < s.filesz → is_left (place_of addr s) written) → byte_of c addr s ≡ byte_of b addr s
+left_byte : (b c : List ℕ) (written : List Range) (addr : ℕ) (s : Segment) → KeepsBytes b c written → s.vaddr ≤ addr → file_end s ≤ length b → (addr - s.vaddr < s.filesz → is_left (file_place_of addr s) written) → byte_of c addr s ≡ byte_of b addr s
 left_byte b c written addr s keeps low within left =
-    guarded addr (s.vaddr + s.filesz) (slice_get c (place_of addr s)) (slice_get b (place_of addr s))
+    guarded addr (s.vaddr + s.filesz) (slice_get c (file_place_of addr s)) (slice_get b (file_place_of addr s))
     (λ h.
     let longer : length b ≤ length c = keeps.longer in
-    let inside : place_of addr s < length b = omega arith in
-    let byte : slice_index c (place_of addr s) ≡ slice_index b (place_of addr s) = keeps.bytes (place_of addr s) inside (left (omega arith)) in
-    got c (place_of addr s) (omega arith) ∙ (ap Some byte ∙ sym (got b (place_of addr s) inside)))
+    let inside : file_place_of addr s < length b = omega arith in
+    let byte : slice_index c (file_place_of addr s) ≡ slice_index b (file_place_of addr s) = keeps.bytes (file_place_of addr s) inside (left (omega arith)) in
+    got c (file_place_of addr s) (omega arith) ∙ (ap Some byte ∙ sym (got b (file_place_of addr s) inside)))
 
 held_within : (addr : ℕ) (s : Segment) → holds addr s ≡ true → (is_load s ≡ true) × (s.vaddr ≤ addr) × (addr < memory_end s)
 held_within addr s h = grind (arith, nat_tests)

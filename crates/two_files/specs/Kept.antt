@@ -26,12 +26,12 @@ pub record KeepsBytes (b c : List ℕ) (written : List Range) : Type 0 where
   pub bytes : (i : ℕ) → i < length b → is_left i written → slice_index c i ≡ slice_index b i
 
 -- The file place of an address in a segment.
-abbrev pub place_of : ℕ → Segment → ℕ
-place_of addr s = s.offset + (addr - s.vaddr)
+abbrev pub file_place_of : ℕ → Segment → ℕ
+file_place_of addr s = s.offset + (addr - s.vaddr)
 
 -- At each address of a LOAD of the file whose file place lies in none of the ranges, the memory of
 -- another file is the same.
 pub record SameImage (b c : List ℕ) (written : List Range) : Type 0 where
   pub same : (addr : ℕ) (s : Segment) → the_only (filter (holds addr) (headers b)) ≡ Some s
-      → (addr - s.vaddr < s.filesz → is_left (place_of addr s) written) → memory_at c addr
+      → (addr - s.vaddr < s.filesz → is_left (file_place_of addr s) written) → memory_at c addr
       ≡ memory_at b addr

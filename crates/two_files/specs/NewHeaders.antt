@@ -6,13 +6,13 @@ use Rattle.byte_view.specs.declared.constants.TheConstants.{PT_DYNAMIC, PT_PHDR}
 use Rattle.byte_view.specs.declared.segments.Segment.{Segment}
 
 -- where a part of the new segment begins in the file and in memory, and its length
-pub record Part : Type 0 where
+pub record SegmentPart : Type 0 where
   pub offset : ℕ
   pub addr : ℕ
   pub size : ℕ
 
 -- a header moved to such a part
-abbrev pub moved_to : Part → Segment → Segment
+abbrev pub moved_to : SegmentPart → Segment → Segment
 moved_to p s = record {
   kind = s.kind;
   flags = s.flags;
@@ -25,7 +25,7 @@ moved_to p s = record {
 }
 
 -- the header table is moved, and the dynamic table where there is no room for it
-abbrev pub move_header : Part → Bool → Part → Segment → Segment
+abbrev pub move_header : SegmentPart → Bool → SegmentPart → Segment → Segment
 move_header table moved dynamic s =
     cond (s.kind == PT_PHDR) (moved_to table s) (cond (moved
     && (s.kind == PT_DYNAMIC)) (moved_to dynamic s) s)

@@ -1,6 +1,6 @@
 use Rattle.std.proofs.Common.{◌∙◌, sym, arith}
 use Rattle.elf_rewrite.proofs.Lowness.{load_within}
-use Rattle.elf_rewrite.proofs.segments.place_at.Goals as goal
+use Rattle.elf_rewrite.proofs.segments.segment_place_at.Goals as goal
 
 pub overflow_add-addr : goal.overflow_add-addr
 overflow_add-addr c =
