@@ -4,10 +4,11 @@ use case_rows::{Fault, Row};
 use toml::Value;
 
 /// The names of a file's fields.
-const FILE: [&str; 13] = [
+const FILE: [&str; 14] = [
     "path",
     "id",
     "is",
+    "interp",
     "soname",
     "needs",
     "fan",
@@ -27,6 +28,8 @@ pub struct File<'a> {
     /// Where it is absent it is the path.
     pub id: &'a str,
     pub is: Option<Odd>,
+    /// The path of its program interpreter.
+    pub interp: Option<&'a str>,
     pub soname: Option<&'a str>,
     pub needs: &'a [Value],
     /// How many of the libraries `l1.so` and on it needs besides.
@@ -52,6 +55,7 @@ impl<'a> File<'a> {
             path,
             id: row.text_if_any("id")?.unwrap_or(path),
             is: odd_of(&row)?,
+            interp: row.text_if_any("interp")?,
             soname: row.text_if_any("soname")?,
             needs: row.list("needs")?,
             fan: row.count("fan")?,

@@ -9,5 +9,5 @@ mod opening;
 mod symbols;
 
 pub use case::{Case, cases_of, name_of};
-pub use making::{names_of, opener_of, program_of, setting_of, wanted_text};
+pub use making::{names_of, opener_of, path_of, program_of, setting_of, wanted_text};
 pub use opening::FileOpener;

@@ -75,7 +75,8 @@ fn name_if_any(alloc: Global, text: Option<&str>) -> Result<Option<Name>, Fault>
     }
 }
 
-fn path_of(alloc: Global, text: &str) -> Result<Abs, Fault> {
+/// The path that a text spells.
+pub fn path_of(alloc: Global, text: &str) -> Result<Abs, Fault> {
     match Abs::read(alloc, text.as_bytes()) {
         Ok(path) => Ok(path),
         Err(_) => Err(Fault::Field("path")),
@@ -150,6 +151,7 @@ fn face_of(alloc: Global, file: &File<'_>) -> Result<Face, Fault>
 }
 
 fn set_names(alloc: Global, face: &mut Face, file: &File<'_>) -> Result<(), Fault> {
+    face.interp = name_if_any(alloc, file.interp)?;
     face.soname = name_if_any(alloc, file.soname)?;
     face.needs = needs_of(alloc, file)?;
     face.rpath = name_if_any(alloc, file.rpath)?;

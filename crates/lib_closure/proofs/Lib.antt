@@ -1,0 +1,13 @@
+pub mod MappedLemmas
+pub mod FirstsLemmas
+pub mod PlaceLemmas
+pub mod NumberLemmas
+pub mod SeenLemmas
+pub mod TakenLemmas
+pub mod BuildLemmas
+pub mod SideLemmas
+pub mod HostLemmas
+pub mod KnownLemmas
+pub mod LesserLemmas
+pub mod VersionFileLemmas
+pub mod AddingLemmas

@@ -1,0 +1,46 @@
+use Rattle.std.proofs.Common.{◌∙◌, ap, get_or, map, sym, zip, Some, None}
+use Rattle.std.specs.Option.{option_and_then, option_map}
+use Rattle.std.proofs.lemmas.Option.{slice_get-get_or}
+use Rattle.answers.specs.First.{first_some}
+use Rattle.lib_closure.specs.Clashes.{first_file_split, goes_elsewhere, file_split}
+use Rattle.lib_closure.specs.Objects.{files_named, in_same_list}
+use Rattle.lib_closure.specs.OfBuild.{of_build}
+use Rattle.lib_closure.specs.Seen.{standing}
+use Rattle.lib_closure.proofs.FirstsLemmas.{got}
+use Rattle.lib_closure.proofs.SideLemmas.{second_side_over, sides_here, third_side_over}
+use Rattle.lib_closure.proofs.bundled.first_file_split.Goals as goal
+
+pub returns-in-None : goal.returns-in-None
+unfolding first_file_split
+returns-in-None c =
+    let f = of_build file_split c.args.build.now (standing c.args.pair.now.first) (standing c.args.pair.now.seen) in
+    second_side_over f c.files-first-items.result.now c.as_slice-asks.result.now c.files-files.result.now c.loop-place.place _ c.in-None.ensures.lookup.3 c.loop-place.invariant
+    ∙ ap (λ xs. first_some (map f (zip xs (zip c.as_slice-asks.result.now c.files-files.result.now)))) c.files-first-items.ensures
+    ∙ ap (λ ys. first_some (map f (zip (files_named (standing c.args.pair.now.first)) (zip ys c.files-files.result.now)))) c.as_slice-asks.ensures
+    ∙ ap (λ zs. first_some (map f (zip (files_named (standing c.args.pair.now.first)) (zip c.args.pair.now.seen.face.now.asks zs)))) c.files-files.ensures
+
+pub returns-in-None-get : goal.returns-in-None-get
+unfolding first_file_split
+returns-in-None-get c =
+    let f = of_build file_split c.args.build.now (standing c.args.pair.now.first) (standing c.args.pair.now.seen) in
+    third_side_over f c.files-first-items.result.now c.as_slice-asks.result.now c.files-files.result.now c.loop-place.place _ c.in-None-get.ensures.lookup.3 c.loop-place.invariant
+    ∙ ap (λ xs. first_some (map f (zip xs (zip c.as_slice-asks.result.now c.files-files.result.now)))) c.files-first-items.ensures
+    ∙ ap (λ ys. first_some (map f (zip (files_named (standing c.args.pair.now.first)) (zip ys c.files-files.result.now)))) c.as_slice-asks.ensures
+    ∙ ap (λ zs. first_some (map f (zip (files_named (standing c.args.pair.now.first)) (zip c.args.pair.now.seen.face.now.asks zs)))) c.files-files.ensures
+
+pub returns-in-Some-2 : goal.returns-in-Some-2
+unfolding first_file_split
+returns-in-Some-2 c =
+    let f = of_build file_split c.args.build.now (standing c.args.pair.now.first) (standing c.args.pair.now.seen) in
+    let name = c.in-Some.ask.now.file in
+    sides_here f c.files-first-items.result.now c.as_slice-asks.result.now c.files-files.result.now c.loop-place.place (get_or c.files-first-items.result.now c.loop-place.place None) c.in-Some.ask.now c.in-Some-get.file.now c.in-Some-2.stop _
+    (slice_get-get_or c.files-first-items.result.now c.loop-place.place None c.loop-place-test.true)
+    (sym (got c.as_slice-asks.result.now c.loop-place.place (Some c.in-Some.ask) c.in-Some.ensures.lookup))
+    (sym (got c.files-files.result.now c.loop-place.place (Some c.in-Some-get.file) c.in-Some-get.ensures.lookup))
+    (sym (ap (λ b. of_build goes_elsewhere c.args.build.now (standing c.args.pair.now.seen) name (option_and_then (in_same_list (standing c.args.pair.now.first)) (get_or c.files-first-items.result.now c.loop-place.place None)) b) c.in_same_list_if_any-other.ensures)
+    ∙ sym (ap (λ a. of_build goes_elsewhere c.args.build.now (standing c.args.pair.now.seen) name a (option_map standing c.in_same_list_if_any-other.result)) c.in_same_list_if_any-one.ensures)
+    ∙ sym c.in_ok-stop.ensures ∙ c.in-Some-2.is)
+    c.loop-place.invariant
+    ∙ ap (λ xs. first_some (map f (zip xs (zip c.as_slice-asks.result.now c.files-files.result.now)))) c.files-first-items.ensures
+    ∙ ap (λ ys. first_some (map f (zip (files_named (standing c.args.pair.now.first)) (zip ys c.files-files.result.now)))) c.as_slice-asks.ensures
+    ∙ ap (λ zs. first_some (map f (zip (files_named (standing c.args.pair.now.first)) (zip c.args.pair.now.seen.face.now.asks zs)))) c.files-files.ensures

@@ -1,0 +1,7 @@
+use Rattle.std.proofs.Common.{◌≡◌, map, take}
+use Rattle.lib_closure.specs.Seen.{standing}
+use Rattle.lib_closure.specs.Splits.{host_lib_of}
+use Rattle.lib_closure.proofs.parts.host_libs_of.Given as goal
+
+abbrev pub invariant-loop-seen : goal.invariant-loop-seen
+invariant-loop-seen l = l.hosts ≡ map host_lib_of (map standing (take l.seen-index l.all))

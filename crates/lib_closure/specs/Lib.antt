@@ -1,0 +1,11 @@
+pub mod Objects
+pub mod Kinds
+pub mod Clashes
+pub mod Splits
+pub mod Known
+pub mod Telling
+pub mod Files
+pub mod Seen
+pub mod Firsts
+pub mod Build
+pub mod OfBuild
