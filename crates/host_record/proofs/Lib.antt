@@ -1,0 +1,12 @@
+mod EscapedLemmas
+mod MappedLemmas
+mod UnescapingLemmas
+mod CutLemmas
+mod FieldLemmas
+mod PathFieldLemmas
+mod LineLemmas
+mod ReadingLemmas
+mod OrderLemmas
+mod WrittenLemmas
+mod StepLemmas
+mod TextLemmas

@@ -1,0 +1,9 @@
+pub mod Orders
+pub mod OrderLaws
+pub mod Lines
+pub mod Fields
+pub mod Said
+pub mod Grammar
+pub mod Canonical
+pub mod Unescaping
+pub mod Reached
