@@ -1,0 +1,5 @@
+mod NumberLemmas
+mod LookLemmas
+mod VersionLemmas
+mod OrderLemmas
+mod CanonicalLemmas

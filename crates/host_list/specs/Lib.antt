@@ -1,0 +1,5 @@
+pub mod Answers
+pub mod Recording
+pub mod Places
+pub mod Versions
+pub mod Meeting
