@@ -1,0 +1,19 @@
+//! Which file name each bundled library gets.
+//!
+//! Opened names are said in `specs/Openings.antt`, names in `specs/Layouts.antt`.
+#![tactic(auto)]
+
+mod free_names;
+mod keys;
+mod layouts;
+mod name_sets;
+mod naming;
+mod opened;
+mod opening_stops;
+mod places;
+mod stops;
+mod taken;
+
+pub use layouts::Layout;
+pub use naming::name_all;
+pub use stops::NameStop;
