@@ -6,4 +6,3 @@ pub mod PackingLemmas
 pub mod ShowingLemmas
 pub mod StopLemmas
 pub mod TwoWorldsLemmas
-pub mod VersionLemmas

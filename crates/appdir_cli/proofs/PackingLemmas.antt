@@ -10,7 +10,7 @@ use Rattle.ports.specs.View.{OnlyReads, View}
 use Rattle.listed_runs.proofs.FittingLemmas.{listed_in_run}
 use Rattle.tree_opener.proofs.OpeningLemmas.{kind_absent}
 use Rattle.listed_runs.specs.Fitting.{is_all_listed}
-use Rattle.appdir_cli.proofs.VersionLemmas.{met_or_refused}
+use Rattle.load_model.proofs.SameListLemmas.{met_or_refused}
 use Rattle.appdir_cli.specs.Packing.{AreVersionsMet, CountsListed, HasBytes, HasList, IsCounted, IsListed, IsPackage, Packs, package_with}
 use Rattle.appdir_cli.specs.Loading.{LoadsAs}
 use Rattle.appdir_cli.specs.Settings.{default_setting}

@@ -8,7 +8,7 @@ use Rattle.load_model.specs.declared.setting.Setting.{Setting}
 use Rattle.ports.specs.View.{View}
 use Rattle.refusals.specs.declared.refusal.Refusal.{Refusal}
 use Rattle.refusals.specs.declared.refusal.Refusal.TheVariants.{Load, NotBuilt, NotEmpty}
-use Rattle.appdir_cli.proofs.VersionLemmas.{met_or_refused}
+use Rattle.load_model.proofs.SameListLemmas.{met_or_refused}
 use Rattle.appdir_cli.specs.Loading.{LoadsAs}
 use Rattle.appdir_cli.specs.Settings.{setting_of}
 use Rattle.bind_report.specs.Places.{no_places}

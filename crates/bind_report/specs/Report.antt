@@ -6,7 +6,7 @@ use Rattle.std.specs.List.{enumerate_from, flat_map}
 use Rattle.std.specs.Option.{option_map, unwrap_or}
 use Rattle.std.specs.Str.{bytes_eq}
 use Rattle.load_model.specs.Bindings.{symbol_at, wanted_version}
-use Rattle.load_model.specs.Escaping.{escaped}
+use Rattle.load_model.specs.Escaping.{escaped, version_text}
 use Rattle.load_model.specs.declared.faces.Face.{Face}
 use Rattle.load_model.specs.declared.runs.Bind.{Bind}
 use Rattle.load_model.specs.declared.runs.Def.{Def}
@@ -20,11 +20,6 @@ use Rattle.load_model.specs.declared.symbols.Sym.{Sym}
 -- A place is escaped, but the place `-` stands for none.
 unfoldable pub place_text : List ℕ → List ℕ
 place_text place = cond (bytes_eq place (45 ∷ [])) (codes "-") (escaped place)
-
--- The version that is wanted, or `-` for none.
-abbrev pub version_text : Option (List ℕ) → List ℕ
-version_text None = codes "-"
-version_text (Some name) = escaped name
 
 abbrev pub class_text : Class → List ℕ
 class_text Plain = codes "p"

@@ -3,7 +3,8 @@
 ghost use Rattle.std.specs.Prelude.{◌≡◌, ◌++◌, OnOk};
 ghost use Rattle.std.specs.Fmt.{decimal};
 ghost use Rattle.load_model.specs.Bindings.{wanted_version};
-ghost use Rattle.bind_report.specs.Report.{class_text, place_text, version_text};
+ghost use Rattle.load_model.specs.Escaping.{version_text};
+ghost use Rattle.bind_report.specs.Report.{class_text, place_text};
 
 use load_model::{Class, Name, NoMemory, Ver, escape_onto};
 use std::alloc::Global;

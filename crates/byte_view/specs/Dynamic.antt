@@ -1,11 +1,12 @@
 -- The dynamic table and its strings, read through memory (System V gABI, Dynamic Section and String
 -- Table).
-use Rattle.std.specs.Prelude.{ℕ, ◌+◌, ◌*◌, ◌/◌, Bool, cond, ◌==◌, nat_lt, List, [], Option, Some, None, length, map, drop}
-use Rattle.std.specs.List.{find, before_first, range_with_len}
+use Rattle.std.specs.Prelude.{ℕ, ◌+◌, ◌*◌, ◌/◌, ◌++◌, Bool, cond, ◌==◌, nat_lt, List, [], Option, Some, None, length, map, drop}
+use Rattle.std.specs.List.{find, flat_map, before_first, range_with_len}
 use Rattle.std.specs.Option.{option_map, unwrap_or}
 use Rattle.byteorder.specs.Endian.{little_number}
 use Rattle.byte_view.specs.Headers.{headers, is_dynamic}
 use Rattle.byte_view.specs.Memory.{memory_bytes}
+use Rattle.byte_view.specs.Numbers.{word_bytes}
 use Rattle.byte_view.specs.declared.constants.TheConstants.{DT_NULL, DT_STRSZ, DT_STRTAB, DYN_SIZE, D_VAL_AT}
 use Rattle.byte_view.specs.declared.dynamic.Entry.{Entry}
 use Rattle.byte_view.specs.declared.segments.Segment.{Segment}
@@ -14,6 +15,16 @@ use Rattle.byte_view.specs.declared.segments.Segment.{Segment}
 unfoldable pub entry_of : List ℕ → Entry
 entry_of bytes =
     record { tag = little_number 8 bytes; value = little_number 8 (drop D_VAL_AT bytes) }
+
+abbrev pub tagged : ℕ → ℕ → Entry
+tagged tag value = record { tag = tag; value = value }
+
+-- The bytes of an entry: its tag, and its value.
+unfoldable pub entry_bytes : Entry → List ℕ
+entry_bytes e = word_bytes 8 e.tag ++ word_bytes 8 e.value
+
+abbrev pub entries_bytes : List Entry → List ℕ
+entries_bytes entries = flat_map (λ e. entry_bytes e) entries
 
 -- How many entries the segment has room for.
 abbrev pub capacity_of : Segment → ℕ

@@ -1,17 +1,14 @@
 -- The dynamic table of a made file (System V gABI, Dynamic Section)
-use Rattle.std.specs.Prelude.{ℕ, ◌+◌, ◌*◌, Bool, cond, List, [], ◌∷◌, ◌++◌, Option, Some, None, map, length, flat_map, replicate}
+use Rattle.std.specs.Prelude.{ℕ, ◌+◌, ◌*◌, Bool, cond, List, [], ◌∷◌, ◌++◌, Option, Some, None, map, length, replicate}
+use Rattle.byte_view.specs.Dynamic.{tagged}
 use Rattle.byte_view.specs.declared.constants.TheConstants.{DT_NULL, DT_NEEDED, DT_HASH, DT_STRTAB, DT_SYMTAB, DT_STRSZ, DT_SYMENT, DT_SONAME, DT_RPATH, DT_SYMBOLIC, DT_RUNPATH, DT_GNU_HASH, DT_VERSYM, DT_VERDEF, DT_VERDEFNUM, DT_VERNEED, DT_VERNEEDNUM, SYM_SIZE}
 use Rattle.byte_view.specs.declared.dynamic.Entry.{Entry}
-use Rattle.elf_shape.specs.Bytes.{longs}
 use Rattle.elf_shape.specs.Texts.{string_place}
 use Rattle.elf_shape.specs.Versions.{is_none_of, has_version_indexes, files_of}
 use Rattle.elf_shape.specs.declared.shape.Shape.{Shape}
 use Rattle.elf_shape.specs.declared.versions.Versions.{Versions}
 use Rattle.elf_make.specs.declared.parts.Parts.{Parts}
 use Rattle.elf_make.specs.declared.parts.Places.{Places}
-
-abbrev pub tagged : ℕ → ℕ → Entry
-tagged tag value = record { tag = tag; value = value }
 
 -- an entry that is there where it is wanted
 abbrev pub where_wanted : Bool → ℕ → ℕ → List Entry
@@ -55,9 +52,6 @@ entries_of shape versions texts parts places =
     name_entries shape texts ++ (table_entries shape parts places ++ (version_entries versions
     places ++ end_entries shape.spare))
 
--- an entry has 16 bytes: tag, value
-unfoldable pub entry_bytes : List Entry → List ℕ
-entry_bytes entries = flat_map (λ e. longs (e.tag ∷ e.value ∷ [])) entries
-
+-- an entry has 16 bytes
 abbrev pub dynamic_size : List Entry → ℕ
 dynamic_size entries = 16 * length entries

@@ -5,7 +5,8 @@ use Rattle.elf_shape.specs.Versions.{made_versions}
 use Rattle.elf_shape.specs.Texts.{shape_texts}
 use Rattle.elf_shape.specs.Symbols.{made_symbols}
 use Rattle.elf_make.specs.Parts.{made_parts, parts_begin, places_of, part_bytes}
-use Rattle.elf_make.specs.DynamicTable.{entries_of, entry_bytes, dynamic_size}
+use Rattle.byte_view.specs.Dynamic.{entries_bytes}
+use Rattle.elf_make.specs.DynamicTable.{entries_of, dynamic_size}
 use Rattle.elf_make.specs.Headers.{file_header, segments_of, segment_bytes, sections_of}
 use Rattle.elf_shape.specs.declared.shape.Shape.{Shape}
 use Rattle.elf_shape.specs.declared.versions.Versions.{Versions}
@@ -17,7 +18,7 @@ unfoldable pub made_file : Shape → Parts → Places → List Entry → List �
 made_file shape parts places entries =
     file_header shape (places.dynamic + dynamic_size entries)
     ++ (segment_bytes (segments_of shape parts places (dynamic_size entries))
-    ++ (part_bytes parts ++ (entry_bytes entries ++ sections_of shape parts places)))
+    ++ (part_bytes parts ++ (entries_bytes entries ++ sections_of shape parts places)))
 
 -- the bytes of the file with these parts, one behind the other
 unfoldable pub file_by : Shape → Versions → List (List ℕ) → Parts → List ℕ

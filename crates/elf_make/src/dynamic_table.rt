@@ -5,7 +5,8 @@
 ghost use Rattle.std.specs.Prelude.{◌≡◌, ◌+◌, ◌++◌, ◌∷◌, [], cond, length, map, replicate, OnOk, IfOk};
 ghost use Rattle.elf_shape.specs.Versions.{files_of as file_names, is_none_of};
 ghost use Rattle.elf_shape.specs.Texts.{string_place};
-ghost use Rattle.elf_make.specs.DynamicTable.{tagged, where_wanted, naming, name_entries, table_entries, version_entries, end_entries, entries_of, entry_bytes, dynamic_size};
+ghost use Rattle.byte_view.specs.Dynamic.{tagged, entries_bytes, entry_bytes};
+ghost use Rattle.elf_make.specs.DynamicTable.{where_wanted, naming, name_entries, table_entries, version_entries, end_entries, entries_of, dynamic_size};
 
 use crate::parts::{Parts, Places};
 use byte_view::Entry;
@@ -226,14 +227,20 @@ pub(crate) fn entries_of(
 }
 
 /// Appends the bytes of the entries.
-#[tactic(auto, unfolding(crate::specs::DynamicTable::entry_bytes))]
 pub(crate) fn push_entries(out: &mut Vec<u8>, entries: &[Entry]) -> Result<(), NoMemory>
-    ensures { OnOk result (out.new.items ≡ out.old.items ++ entry_bytes entries.now) }
+    ensures { OnOk result (out.new.items ≡ out.old.items ++ entries_bytes entries.now) }
 {
     for entry in entries {
-        push_longs(out, &[entry.tag, entry.value])?;
+        push_row(out, entry)?;
     }
     Ok(())
+}
+
+#[tactic(auto, using(crate::proofs::EntryLemmas::longs_of_entry))]
+fn push_row(out: &mut Vec<u8>, entry: &Entry) -> Result<(), NoMemory>
+    ensures { OnOk result (out.new.items ≡ out.old.items ++ entry_bytes entry.now) }
+{
+    push_longs(out, &[entry.tag, entry.value])
 }
 
 /// How many bytes so many entries have.

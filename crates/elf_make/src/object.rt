@@ -1,7 +1,7 @@
 //! A made file, from its parts.
 
 ghost use Rattle.std.specs.Prelude.{◌≡◌, ◌+◌, ◌++◌, IfOk, OnOk};
-ghost use Rattle.elf_make.specs.DynamicTable.{entry_bytes};
+ghost use Rattle.byte_view.specs.Dynamic.{entries_bytes};
 ghost use Rattle.elf_make.specs.Headers.{file_header, segment_bytes, sections_of, segments_of};
 ghost use Rattle.elf_make.specs.Parts.{part_bytes};
 ghost use Rattle.elf_make.specs.Object.{file_by, made_file, made_object, object_by};
@@ -51,7 +51,7 @@ fn push_rest(
         (out.new.items
         ≡ out.old.items
         ++ (part_bytes parts.now
-        ++ (entry_bytes entries.now ++ sections_of shape.now parts.now places.now))) }
+        ++ (entries_bytes entries.now ++ sections_of shape.now parts.now places.now))) }
 {
     push_parts(out, parts)?;
     push_entries(out, entries)?;

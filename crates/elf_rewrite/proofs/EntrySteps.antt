@@ -4,19 +4,19 @@ use Rattle.std.specs.Prelude.{replicate}
 use Rattle.std.proofs.lemmas.List.{drop-drop}
 use Rattle.byte_view.specs.declared.constants.TheConstants.{DT_NULL}
 use Rattle.byte_view.specs.declared.dynamic.Entry.{Entry}
-use Rattle.two_files.specs.Entries.{tagged}
-use Rattle.elf_rewrite.specs.Rewriting.{padded}
+use Rattle.byte_view.specs.Dynamic.{tagged}
+use Rattle.elf_rewrite.specs.Rewriting.{padded_entries}
 
 one_less : (n m : ℕ) (e : Entry) → n ≡ suc m → replicate n e ≡ e ∷ replicate m e
 one_less n m e h = rw h refl
 
-pub padded_more : (capacity : ℕ) (xs : List Entry) → length xs < capacity → padded capacity (xs ++ tagged DT_NULL 0 ∷ []) ≡ padded capacity xs
+pub padded_more : (capacity : ℕ) (xs : List Entry) → length xs < capacity → padded_entries capacity (xs ++ tagged DT_NULL 0 ∷ []) ≡ padded_entries capacity xs
 padded_more capacity xs h =
     let long : length (xs ++ tagged DT_NULL 0 ∷ []) ≡ length xs + 1 = length-append xs (tagged DT_NULL 0 ∷ []) in
     let less : capacity - length xs ≡ suc (capacity - (length xs + 1)) = omega arith in
     rw (long, append_assoc) (ap (λ l. xs ++ l) (sym (one_less (capacity - length xs) (capacity - (length xs + 1)) (tagged DT_NULL 0) less)))
 
-pub padded_full : (capacity : ℕ) (xs : List Entry) → capacity ≤ length xs → padded capacity xs ≡ xs
+pub padded_full : (capacity : ℕ) (xs : List Entry) → capacity ≤ length xs → padded_entries capacity xs ≡ xs
 padded_full capacity xs h =
     let none : capacity - length xs ≡ 0 = omega arith in
     rw none (append-nil xs)

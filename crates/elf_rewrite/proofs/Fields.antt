@@ -5,10 +5,11 @@ use Rattle.std.proofs.lemmas.List.Elements.{All-head, All-tail}
 use Rattle.std.proofs.lemmas.List.{drop_at, drop-drop}
 use Rattle.byteorder.specs.Numbers.{little_number-reads_back, length-bytes_low_first}
 use Rattle.byte_view.specs.declared.segments.Segment.{Segment}
-use Rattle.byte_view.specs.Numbers.{number_at}
+use Rattle.byte_view.specs.Numbers.{number_at, word_bytes}
 use Rattle.byte_view.specs.Headers.{header_at, headers, e_phoff, e_phnum}
 use Rattle.byte_view.specs.declared.dynamic.Entry.{Entry}
-use Rattle.elf_rewrite.specs.Words.{word_bytes, header_bytes, IsWide, table_bytes, entry_bytes, entries_bytes}
+use Rattle.byte_view.specs.Dynamic.{entry_bytes, entries_bytes}
+use Rattle.elf_rewrite.specs.Words.{header_bytes, IsWide, table_bytes}
 
 pub word_long : (n x : ℕ) → length (word_bytes n x) ≡ n
 unfolding word_bytes

@@ -5,12 +5,12 @@ use Rattle.std.specs.List.{All, list_all}
 use Rattle.std.proofs.lemmas.List.{length-replicate, take-append-drop}
 use Rattle.std.proofs.lemmas.List.Elements.{All-cons, All-weaker}
 use Rattle.byte_view.specs.Headers.{e_phnum, e_phoff, headers}
-use Rattle.byte_view.specs.Numbers.{number_at}
+use Rattle.byte_view.specs.Numbers.{number_at, word_bytes}
 use Rattle.byte_view.specs.declared.segments.Segment.{Segment}
 use Rattle.two_files.specs.Kept.{misses}
 use Rattle.elf_rewrite.specs.Patched.{end_of, patched, range_of, written}
 use Rattle.elf_rewrite.specs.Pieces.{Overlay, laid, put_together}
-use Rattle.elf_rewrite.specs.Words.{IsWide, table_bytes, word, word_bytes}
+use Rattle.elf_rewrite.specs.Words.{IsWide, table_bytes, word}
 use Rattle.elf_rewrite.specs.declared.patch.Patch.{Patch}
 use Rattle.elf_rewrite.specs.declared.patch.Piece.{Piece}
 use Rattle.elf_rewrite.specs.declared.patch.Piece.TheVariants.{New, Zeros}

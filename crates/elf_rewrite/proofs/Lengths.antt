@@ -3,16 +3,16 @@ use Rattle.std.proofs.Common.{◌≡◌, ℕ, ◌+◌, ◌*◌, ◌≤◌, ◌==
 use Rattle.std.specs.List.{before_first, find, list_any}
 use Rattle.std.proofs.lemmas.List.{length-map, length-replicate, length-take}
 use Rattle.std.proofs.lemmas.List.FromFn.{length-map-range_with_len}
-use Rattle.byte_view.specs.Dynamic.{capacity_of, dynamic_capacity, dynamic_entries, dynamic_table, is_end, table_by, table_of}
+use Rattle.byte_view.specs.Dynamic.{capacity_of, dynamic_capacity, dynamic_entries, dynamic_table, is_end, table_by, table_of, tagged, entries_bytes, entry_bytes}
 use Rattle.byte_view.specs.DynamicFlaws.{has_tag}
 use Rattle.byte_view.specs.Headers.{e_phnum, headers, is_dynamic, is_load}
 use Rattle.byte_view.specs.declared.constants.TheConstants.{DT_NEEDED, DT_RUNPATH}
 use Rattle.byte_view.specs.declared.dynamic.Entry.{Entry}
 use Rattle.byte_view.specs.declared.segments.Segment.{Segment}
-use Rattle.two_files.specs.Entries.{Places, added_path, new_entries, new_value, rewritten, tagged, where_some}
+use Rattle.two_files.specs.Entries.{Places, added_path, new_entries, new_value, rewritten, where_some}
 use Rattle.two_files.specs.NewHeaders.{add_load}
-use Rattle.elf_rewrite.specs.Rewriting.{headers_by, moved_by, new_segment, padded}
-use Rattle.elf_rewrite.specs.Words.{entries_bytes, entry_bytes, header_bytes, table_bytes}
+use Rattle.elf_rewrite.specs.Rewriting.{headers_by, moved_by, new_segment, padded_entries}
+use Rattle.elf_rewrite.specs.Words.{header_bytes, table_bytes}
 use Rattle.elf_rewrite.specs.declared.layout.Layout.{Layout}
 use Rattle.elf_rewrite.proofs.Fields.{entry_long, header_long}
 
@@ -41,7 +41,7 @@ add_most last (s ∷ more) = go (list_any is_load more) (is_load s) (add_most la
 pub headers_most : (l : Layout) (xs : List Segment) → length (headers_by l xs) ≤ length xs + 1
 headers_most l xs = omega (arith, add_most (new_segment l) (map (λ s. moved_by l s) xs), length-map xs (λ s. moved_by l s))
 
-pub padded_long : (capacity : ℕ) (xs : List Entry) → length xs ≤ capacity → length (padded capacity xs) ≡ capacity
+pub padded_long : (capacity : ℕ) (xs : List Entry) → length xs ≤ capacity → length (padded_entries capacity xs) ≡ capacity
 padded_long capacity xs h = simp (length-append, length-replicate) (omega arith)
 
 some_most : (tag : ℕ) (o : Option ℕ) → length (where_some tag o) ≤ 1

@@ -9,7 +9,7 @@ use Rattle.std.proofs.lemmas.List.Elements.{All-same}
 use Rattle.std.proofs.lemmas.List.Folds.{list_all-map}
 use Rattle.answers.specs.First.{some_where}
 use Rattle.byte_view.specs.Checks.{flaw}
-use Rattle.byte_view.specs.Dynamic.{capacity_of, dynamic_capacity, dynamic_entries, dynamic_table, is_end, strings_at, strings_of}
+use Rattle.byte_view.specs.Dynamic.{capacity_of, dynamic_capacity, dynamic_entries, dynamic_table, is_end, strings_at, strings_of, tagged, entries_bytes}
 use Rattle.byte_view.specs.DynamicFlaws.{misplaced, no_end, place_flaw, two_dynamic}
 use Rattle.byte_view.specs.HeaderFlaws.{header_flaw, headers_end, ident_flaw, segment_flaw, short_headers, word_flaw, wrong_entry_size, wrong_header_size, wrong_kind, wrong_machine, wrong_number}
 use Rattle.byte_view.specs.Headers.{e_phnum, e_phoff, header_at, headers, is_dynamic}
@@ -24,7 +24,7 @@ use Rattle.load_model.specs.Escaping.{AreBytes}
 use Rattle.load_model.specs.Faces.{first_flaw}
 use Rattle.load_model.specs.VersionTables.{verneed_count}
 use Rattle.strtab_grow.specs.Growth.{added, once, stands_in}
-use Rattle.two_files.specs.Entries.{new_entries, tagged}
+use Rattle.two_files.specs.Entries.{new_entries}
 use Rattle.two_files.specs.Kept.{Range, SameImage, misses}
 use Rattle.two_files.proofs.HeadersFine.{headers_fine}
 use Rattle.two_files.proofs.Image.{image_left}
@@ -36,8 +36,7 @@ use Rattle.elf_rewrite.specs.NewTexts.{changed_texts, new_texts, removes, wants_
 use Rattle.elf_rewrite.specs.Patched.{end_of, patched, range_of}
 use Rattle.elf_rewrite.specs.Pieces.{StaysWithin, Overlay, laid, put_together}
 use Rattle.elf_rewrite.specs.Ranges.{first_overlap, meets, ranges_of, single_range, where_known}
-use Rattle.elf_rewrite.specs.Rewriting.{file_for, padded, rewriting, table_patch}
-use Rattle.elf_rewrite.specs.Words.{entries_bytes}
+use Rattle.elf_rewrite.specs.Rewriting.{file_for, padded_entries, rewriting, table_patch}
 use Rattle.elf_rewrite.specs.declared.change.Change.{Change}
 use Rattle.elf_rewrite.specs.declared.patch.Patch.{Patch}
 use Rattle.elf_rewrite.proofs.ApartLemmas.{segments_apart, strings_apart}
@@ -277,10 +276,10 @@ strings_left b change n s =
     let read : take (old_size b) (drop s.range.0 b) ≡ strings_of b (headers b) (dynamic_entries b) = rw size at (old.same) in
     rw (none.1, none.0) (same ∙ (read ∙ sym (append-nil (strings_of b (headers b) (dynamic_entries b)))))
 
-table_reads : (b : List ℕ) (change : Change) (s : Segment) → IsNarrowed b change → find is_dynamic (headers b) ≡ Some s → (rest : List ℕ) × (drop s.offset (narrow_file b change) ≡ entries_bytes (padded (dynamic_capacity b) (entries_in b change)) ++ rest)
+table_reads : (b : List ℕ) (change : Change) (s : Segment) → IsNarrowed b change → find is_dynamic (headers b) ≡ Some s → (rest : List ℕ) × (drop s.offset (narrow_file b change) ≡ entries_bytes (padded_entries (dynamic_capacity b) (entries_in b change)) ++ rest)
 unfolding laid
 table_reads b change s n found =
-    let p : Patch = record { at = s.offset; bytes = entries_bytes (padded (dynamic_capacity b) (entries_in b change)) } in
+    let p : Patch = record { at = s.offset; bytes = entries_bytes (padded_entries (dynamic_capacity b) (entries_in b change)) } in
     let patches : (narrow b change).patches ≡ [] ++ p ∷ [] = rw found refl in
     let fits : All (λ q. end_of q ≤ length b) ([] ++ p ∷ []) = All-same (λ q. end_of q ≤ length b) ([] ++ p ∷ []) (narrow b change).patches (sym patches) (narrow_sound b change n).fits in
     let read = last_reads b (put_together b []) [] p fits in
@@ -328,7 +327,7 @@ narrow_parts b change n =
     let padding = padded_end (dynamic_capacity b) (entries_in b change) room in
     let small : All (λ e. IsShort e) (entries_in b change) = all_short b change n.bytes fine.headers t (omega (arith, none.1, w.0, w.1)) (rw at (old_strings_short b n.bytes fine.headers t)) in
     let short = ended_short m (entries_in b change) small in
-    let padded_size : length (padded (dynamic_capacity b) (entries_in b change)) ≡ dynamic_capacity b = padded_long (dynamic_capacity b) (entries_in b change) (omega arith) in
+    let padded_size : length (padded_entries (dynamic_capacity b) (entries_in b change)) ≡ dynamic_capacity b = padded_long (dynamic_capacity b) (entries_in b change) (omega arith) in
     let size : capacity_of d ≡ length (entries_in b change ++ tagged DT_NULL 0 ∷ replicate m (tagged DT_NULL 0)) = sym (capacity_is b d t.found) ∙ (sym padded_size ∙ ap length padding) in
     let stands = table_reads b change d n t.found in
     let v = has_versions b fine.versions in

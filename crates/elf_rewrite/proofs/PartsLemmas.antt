@@ -5,7 +5,7 @@ use Rattle.std.specs.List.{before_first, find, list_any, position_or_len}
 use Rattle.std.proofs.lemmas.Bool.Decides.{nat_tests}
 use Rattle.answers.specs.First.{some_where}
 use Rattle.byte_view.specs.Checks.{flaw}
-use Rattle.byte_view.specs.Dynamic.{dynamic_entries, dynamic_table, is_end, strings_at, strings_of, strings_size, value_of}
+use Rattle.byte_view.specs.Dynamic.{dynamic_entries, dynamic_table, is_end, strings_at, strings_of, strings_size, value_of, tagged}
 use Rattle.byte_view.specs.DynamicFlaws.{bad_name, entry_flaw, has_tag, missing_beside, missing_flaw, missing_tag, place_flaw, strings_flaw}
 use Rattle.byte_view.specs.HeaderFlaws.{header_flaw}
 use Rattle.byte_view.specs.Headers.{headers, is_dynamic, is_interp}
@@ -23,7 +23,7 @@ use Rattle.load_model.proofs.Places.{slice_get-take}
 use Rattle.load_model.specs.VersionTables.{memory_number, verneed_count, verneed_place, vn_file}
 use Rattle.strtab_grow.specs.Growth.{added, stored}
 use Rattle.sym_tables.proofs.Backing.{word_there}
-use Rattle.two_files.specs.Entries.{new_entries, tagged}
+use Rattle.two_files.specs.Entries.{new_entries}
 use Rattle.two_files.proofs.DynamicFine.{dynamic_fine, front_of, strings_fine}
 use Rattle.two_files.proofs.Entries.{new_strings_at as table_at, new_strings_size as table_size}
 use Rattle.two_files.proofs.EntryFlaws.{entries_fine, new_unended, tags_fine}

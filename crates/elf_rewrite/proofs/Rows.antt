@@ -12,10 +12,10 @@ use Rattle.load_model.specs.VersionFlaws as V
 use Rattle.load_model.specs.VersionFlaws.{symbols_version_flaw, verdefs_flaw, verneeds_flaw, version_flaw}
 use Rattle.load_model.specs.VersionTables.{definitions_of, indexed_names}
 use Rattle.byte_view.specs.HeaderFlaws.{first_below, header_flaw, ident_flaw, segment_flaw, word_flaw}
-use Rattle.byte_view.specs.Dynamic.{dynamic_entries, dynamic_table, entry_of, string_at, strings_of, table_of}
+use Rattle.byte_view.specs.Dynamic.{dynamic_entries, dynamic_table, entry_of, string_at, strings_of, table_of, entry_bytes}
 use Rattle.byte_view.specs.Headers.{header_at, headers}
 use Rattle.byte_view.specs.Memory.{memory_bytes, memory_in, range_in}
-use Rattle.byte_view.specs.Numbers.{number_at}
+use Rattle.byte_view.specs.Numbers.{number_at, word_bytes}
 use Rattle.byte_view.specs.declared.constants.TheConstants.{DT_RUNPATH}
 use Rattle.load_model.specs.Faces.{named_text, needs_of}
 use Rattle.load_model.specs.VersionTables.{ask_needs_of, asks_of, aux_places_of, def_places_of, file_place, file_words_of, memory_number, record_place, verdef_place, vernauxs, verneed_place}
@@ -31,7 +31,7 @@ use Rattle.elf_rewrite.specs.NewTable.{entries_in, text_places}
 use Rattle.elf_rewrite.specs.NewTexts.{changed_texts, new_texts, removes}
 use Rattle.elf_rewrite.specs.Rewriting.{file_patches, layout_of, new_headers, rewriting, segment_patches, segment_pieces}
 use Rattle.elf_rewrite.specs.Stops.{segment_stop, stop_of}
-use Rattle.elf_rewrite.specs.Words.{entry_bytes, header_bytes, word_bytes}
+use Rattle.elf_rewrite.specs.Words.{header_bytes}
 use Rattle.elf_rewrite.specs.declared.change.Change.{Change}
 use Rattle.elf_rewrite.specs.declared.change.RewriteStop.TheVariants.{TableOverlap}
 

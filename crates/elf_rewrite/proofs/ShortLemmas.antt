@@ -5,7 +5,7 @@ use Rattle.std.proofs.Math.Nat.{pow-suc}
 use Rattle.std.proofs.lemmas.List.{get_or-drop}
 use Rattle.std.proofs.lemmas.List.Elements.{All-append, All-cons, All-drop, All-head, All-map, All-nil, All-same, All-tail, All-take, All-weaker}
 use Rattle.byteorder.specs.Endian.{little_from}
-use Rattle.byte_view.specs.Dynamic.{dynamic_entries, dynamic_table}
+use Rattle.byte_view.specs.Dynamic.{dynamic_entries, dynamic_table, tagged}
 use Rattle.byte_view.specs.DynamicFlaws.{has_tag, segment_flaw_by}
 use Rattle.byte_view.specs.HeaderFlaws.{header_flaw}
 use Rattle.byte_view.specs.Headers.{e_phnum, e_phoff, header_at, headers, is_dynamic, is_load}
@@ -16,7 +16,7 @@ use Rattle.byte_view.specs.declared.segments.Segment.{Segment}
 use Rattle.dyn_table.specs.Table.{entry_in, table_in}
 use Rattle.dyn_table.proofs.Placed.{table_found}
 use Rattle.load_model.specs.Escaping.{AreBytes}
-use Rattle.two_files.specs.Entries.{Places, added_path, new_entries, new_value, rewritten, tagged, where_some}
+use Rattle.two_files.specs.Entries.{Places, added_path, new_entries, new_value, rewritten, where_some}
 use Rattle.two_files.specs.NewHeaders.{add_load}
 use Rattle.elf_rewrite.specs.Words.{IsWide}
 use Rattle.elf_rewrite.proofs.Fields.{IsShort}

@@ -6,7 +6,7 @@ use Rattle.std.specs.Option.{option_map, unwrap_or}
 use Rattle.std.specs.Str.{bytes_eq}
 use Rattle.std.proofs.lemmas.Bool.Decides.{nat_tests}
 use Rattle.std.proofs.lemmas.List.Elements.{All-append, All-cons, All-head, All-nil, All-tail}
-use Rattle.byte_view.specs.Dynamic.{capacity_of, dynamic_capacity, dynamic_entries}
+use Rattle.byte_view.specs.Dynamic.{capacity_of, dynamic_capacity, dynamic_entries, tagged, entries_bytes}
 use Rattle.byte_view.specs.DynamicFlaws.{has_tag}
 use Rattle.byte_view.specs.HeaderFlaws.{header_flaw}
 use Rattle.byte_view.specs.Headers.{file_end, headers, is_dynamic}
@@ -21,15 +21,15 @@ use Rattle.dyn_table.proofs.Placed.{dynamic_within}
 use Rattle.load_model.specs.Faces.{named_text}
 use Rattle.load_model.specs.VersionTables.{dynamic_value, file_place, file_words_of, text_of, verneeds}
 use Rattle.strtab_grow.specs.Growth.{Growth}
-use Rattle.two_files.specs.Entries.{added_path, tagged}
+use Rattle.two_files.specs.Entries.{added_path}
 use Rattle.two_files.specs.Kept.{Range}
 use Rattle.two_files.proofs.Entries.{tag_there}
 use Rattle.elf_rewrite.specs.NewTable.{grown_by, name_place, new_place, places_with}
 use Rattle.elf_rewrite.specs.NewTexts.{changed_name, changed_texts}
 use Rattle.elf_rewrite.specs.Patched.{end_of}
 use Rattle.elf_rewrite.specs.Pieces.{StaysWithin, is_within, total_size}
-use Rattle.elf_rewrite.specs.Rewriting.{IsSmallLayout, file_for, file_patch, file_patches, headers_by, padded, patches_by, pieces_by, strings_piece, table_patch, table_pieces, table_start}
-use Rattle.elf_rewrite.specs.Words.{entries_bytes, table_bytes, word}
+use Rattle.elf_rewrite.specs.Rewriting.{IsSmallLayout, file_for, file_patch, file_patches, headers_by, padded_entries, patches_by, pieces_by, strings_piece, table_patch, table_pieces, table_start}
+use Rattle.elf_rewrite.specs.Words.{table_bytes, word}
 use Rattle.elf_rewrite.specs.declared.change.Change.{Change}
 use Rattle.elf_rewrite.specs.declared.layout.Layout.{Layout}
 use Rattle.elf_rewrite.specs.declared.patch.Patch.{Patch}
@@ -83,9 +83,9 @@ table_fits b entries r room = go (find is_dynamic (headers b)) refl
     go (Some s) e =
         let within : file_end s ≤ length b = dynamic_within (headers b) b s r e in
         let size : dynamic_capacity b ≡ capacity_of s = capacity_is b s e in
-        let padded_size : length (padded (dynamic_capacity b) entries) ≡ dynamic_capacity b = padded_long (dynamic_capacity b) entries room in
-        let bytes : length (entries_bytes (padded (dynamic_capacity b) entries)) ≡ 16 * length (padded (dynamic_capacity b) entries) = entries_long (padded (dynamic_capacity b) entries) in
-        All-cons (λ p. end_of p ≤ length b) (record { at = s.offset; bytes = entries_bytes (padded (dynamic_capacity b) entries) }) [] (omega arith) (All-nil (λ p. end_of p ≤ length b))
+        let padded_size : length (padded_entries (dynamic_capacity b) entries) ≡ dynamic_capacity b = padded_long (dynamic_capacity b) entries room in
+        let bytes : length (entries_bytes (padded_entries (dynamic_capacity b) entries)) ≡ 16 * length (padded_entries (dynamic_capacity b) entries) = entries_long (padded_entries (dynamic_capacity b) entries) in
+        All-cons (λ p. end_of p ≤ length b) (record { at = s.offset; bytes = entries_bytes (padded_entries (dynamic_capacity b) entries) }) [] (omega arith) (All-nil (λ p. end_of p ≤ length b))
 
 -- what the parts of a new segment are to be
 pub record AreSmall (b : List ℕ) (l : Layout) (segments : List Segment) (strings : Option Range) (new : List ℕ) (entries : List Entry) : Type 0 where

@@ -7,7 +7,7 @@ use Rattle.std.specs.Str.{bytes_eq}
 use Rattle.std.proofs.lemmas.Bool.Decides.{nat_tests}
 use Rattle.std.proofs.lemmas.List.{take-append-drop}
 use Rattle.std.proofs.lemmas.List.Elements.{All-append, All-cons, All-head, All-nil, All-replicate, All-tail, All-weaker}
-use Rattle.byte_view.specs.Dynamic.{capacity_of, dynamic_entries, dynamic_table, strings_at, value_of}
+use Rattle.byte_view.specs.Dynamic.{capacity_of, dynamic_entries, dynamic_table, strings_at, value_of, tagged, entries_bytes}
 use Rattle.byte_view.specs.DynamicFlaws.{place_flaw, segment_flaw_by}
 use Rattle.byte_view.specs.HeaderFlaws.{header_flaw}
 use Rattle.byte_view.specs.Headers.{headers, is_dynamic}
@@ -19,11 +19,9 @@ use Rattle.dyn_table.proofs.Placed.{table_found}
 use Rattle.load_model.specs.Escaping.{AreBytes}
 use Rattle.load_model.specs.VersionTables.{dynamic_value, text_of}
 use Rattle.strtab_grow.specs.declared.texts.TheConstants.{TABLE_LIMIT}
-use Rattle.two_files.specs.Entries.{tagged}
 use Rattle.elf_rewrite.specs.NewTable.{entries_in, grown_by, name_place, need_places, need_values, new_place, new_size, new_strings_at, old_size, place_instead, text_places}
 use Rattle.elf_rewrite.specs.Patched.{end_of, patched, written}
-use Rattle.elf_rewrite.specs.Rewriting.{padded}
-use Rattle.elf_rewrite.specs.Words.{entries_bytes}
+use Rattle.elf_rewrite.specs.Rewriting.{padded_entries}
 use Rattle.elf_rewrite.specs.declared.change.Change.{Change}
 use Rattle.elf_rewrite.specs.declared.patch.Patch.{Patch}
 use Rattle.elf_rewrite.proofs.Fields.{IsShort, entries_read}
@@ -44,7 +42,7 @@ table_is c rest s xs fine found placed size short there =
     sym same ∙ rw size read
 
 -- entries with zeros up to a capacity have an end
-pub padded_end : (capacity : ℕ) (xs : List Entry) → length xs + 1 ≤ capacity → padded capacity xs ≡ xs ++ tagged DT_NULL 0 ∷ replicate (capacity - (length xs + 1)) (tagged DT_NULL 0)
+pub padded_end : (capacity : ℕ) (xs : List Entry) → length xs + 1 ≤ capacity → padded_entries capacity xs ≡ xs ++ tagged DT_NULL 0 ∷ replicate (capacity - (length xs + 1)) (tagged DT_NULL 0)
 padded_end capacity xs h =
     let more : capacity - length xs ≡ suc (capacity - (length xs + 1)) = omega arith in
     rw more refl

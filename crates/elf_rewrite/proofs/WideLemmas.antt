@@ -4,7 +4,7 @@ use Rattle.std.specs.Prelude.{nat_lt}
 use Rattle.std.specs.List.{All, filter, find}
 use Rattle.std.proofs.lemmas.Bool.Decides.{nat_tests}
 use Rattle.std.proofs.lemmas.List.Elements.{All-cons, All-head, All-nil, All-tail, All-weaker}
-use Rattle.byte_view.specs.Dynamic.{dynamic_entries, strings_at}
+use Rattle.byte_view.specs.Dynamic.{dynamic_entries, strings_at, tagged, entries_bytes}
 use Rattle.byte_view.specs.DynamicFlaws.{two_dynamic}
 use Rattle.byte_view.specs.HeaderFlaws.{has_bad_range, header_flaw, segment_flaw}
 use Rattle.byte_view.specs.Headers.{e_shentsize, e_shnum, e_shoff, headers, is_dynamic, is_interp, is_load, memory_end}
@@ -15,7 +15,6 @@ use Rattle.byte_view.specs.declared.segments.Segment.{Segment}
 use Rattle.byte_view.proofs.Backed.{load_sizes}
 use Rattle.byte_view.proofs.Loads.{sound_file}
 use Rattle.strtab_grow.specs.Growth.{added}
-use Rattle.two_files.specs.Entries.{tagged}
 use Rattle.two_files.specs.Kept.{Range, SameImage}
 use Rattle.two_files.specs.NewHeaders.{AddsLoad, moved_to}
 use Rattle.two_files.proofs.HeadersFine.{headers_fine, segments_fine}
@@ -28,7 +27,7 @@ use Rattle.elf_rewrite.specs.NewTexts.{new_texts}
 use Rattle.elf_rewrite.specs.Pieces.{laid, length_of, total_size}
 use Rattle.elf_rewrite.specs.Rewriting.{header_part, layout_of, moved_by, segment_pieces, segment_size, table_part, table_pieces, table_start}
 use Rattle.elf_rewrite.specs.Stops.{has_sections_outside}
-use Rattle.elf_rewrite.specs.Words.{entries_bytes, table_bytes}
+use Rattle.elf_rewrite.specs.Words.{table_bytes}
 use Rattle.elf_rewrite.specs.declared.change.Change.{Change}
 use Rattle.elf_rewrite.specs.declared.layout.Layout.{Layout}
 use Rattle.elf_rewrite.specs.declared.patch.Piece.TheVariants.{New, Old, Zeros}

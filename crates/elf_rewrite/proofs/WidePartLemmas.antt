@@ -5,7 +5,7 @@ use Rattle.std.specs.List.{All, find}
 use Rattle.std.proofs.lemmas.Bool.Decides.{nat_tests}
 use Rattle.std.proofs.lemmas.List.{length-replicate, take_at}
 use Rattle.std.proofs.lemmas.List.Elements.{All-same}
-use Rattle.byte_view.specs.Dynamic.{capacity_of, dynamic_capacity, dynamic_entries, dynamic_table, strings_at, strings_of}
+use Rattle.byte_view.specs.Dynamic.{capacity_of, dynamic_capacity, dynamic_entries, dynamic_table, strings_at, strings_of, tagged, entries_bytes}
 use Rattle.byte_view.specs.DynamicFlaws.{misplaced, place_flaw, two_dynamic}
 use Rattle.byte_view.specs.Headers.{e_phnum, headers, is_dynamic}
 use Rattle.byte_view.specs.Memory.{range_in}
@@ -15,7 +15,6 @@ use Rattle.byte_view.specs.declared.segments.Segment.{Segment}
 use Rattle.byte_view.proofs.Found.{find_passes}
 use Rattle.dyn_table.proofs.StringTable.{AreStrings, strings_there}
 use Rattle.strtab_grow.specs.Growth.{added}
-use Rattle.two_files.specs.Entries.{tagged}
 use Rattle.two_files.specs.NewHeaders.{moved_to}
 use Rattle.two_files.proofs.NewRanges.{placed_still}
 use Rattle.two_files.proofs.Strings.{strings_long}
@@ -25,8 +24,8 @@ use Rattle.elf_rewrite.specs.NewTable.{entries_in, new_size, new_strings_at, old
 use Rattle.elf_rewrite.specs.NewTexts.{new_texts}
 use Rattle.elf_rewrite.specs.Patched.{end_of, patched}
 use Rattle.elf_rewrite.specs.Pieces.{Overlay, laid, put_together}
-use Rattle.elf_rewrite.specs.Rewriting.{file_patches, layout_of, moved_by, padded, rewriting, segment_patches, segment_pieces, segment_size, table_part, table_pieces, table_start}
-use Rattle.elf_rewrite.specs.Words.{entries_bytes, table_bytes, word}
+use Rattle.elf_rewrite.specs.Rewriting.{file_patches, layout_of, moved_by, padded_entries, rewriting, segment_patches, segment_pieces, segment_size, table_part, table_pieces, table_start}
+use Rattle.elf_rewrite.specs.Words.{table_bytes, word}
 use Rattle.elf_rewrite.specs.declared.change.Change.{Change}
 use Rattle.elf_rewrite.specs.declared.layout.Layout.{Layout}
 use Rattle.elf_rewrite.specs.declared.patch.Patch.{Patch}
@@ -192,10 +191,10 @@ moved_table b change h m =
         rw (big, range, here) refl
 
 -- the table at its old place is what is written last
-kept_at : (b : List ℕ) (change : Change) → HasSegment b change → (layout_of b change).moved ≡ false → (s : Segment) → find is_dynamic (headers b) ≡ Some s → (rest : List ℕ) × (drop s.offset (wide_file b change) ≡ entries_bytes (padded (dynamic_capacity b) (entries_in b change)) ++ rest)
+kept_at : (b : List ℕ) (change : Change) → HasSegment b change → (layout_of b change).moved ≡ false → (s : Segment) → find is_dynamic (headers b) ≡ Some s → (rest : List ℕ) × (drop s.offset (wide_file b change) ≡ entries_bytes (padded_entries (dynamic_capacity b) (entries_in b change)) ++ rest)
 unfolding laid
 kept_at b change h m s found =
-    let p : Patch = record { at = s.offset; bytes = entries_bytes (padded (dynamic_capacity b) (entries_in b change)) } in
+    let p : Patch = record { at = s.offset; bytes = entries_bytes (padded_entries (dynamic_capacity b) (entries_in b change)) } in
     let pre : List Patch = word 8 32 (layout_of b change).place ∷ (word 2 56 (e_phnum b + 1) ∷ file_patches b change) in
     let rest : List ℕ = put_together b (wide b change).added in
     let patches : segment_patches b change ≡ pre ++ p ∷ [] = patches_are b change ∙ rw (m, found) refl in
@@ -216,7 +215,7 @@ kept_table b change h m =
     let padding = padded_end (dynamic_capacity b) (entries_in b change) room in
     let short = ended_short n (entries_in b change) (entries_small b change h) in
     let capacity : capacity_of s ≡ dynamic_capacity b = sym (capacity_is b s t.found) in
-    let long : length (padded (dynamic_capacity b) (entries_in b change)) ≡ dynamic_capacity b = padded_long (dynamic_capacity b) (entries_in b change) (omega arith) in
+    let long : length (padded_entries (dynamic_capacity b) (entries_in b change)) ≡ dynamic_capacity b = padded_long (dynamic_capacity b) (entries_in b change) (omega arith) in
     let size : capacity_of s ≡ length (entries_in b change ++ tagged DT_NULL 0 ∷ replicate n (tagged DT_NULL 0)) = capacity ∙ (sym long ∙ ap length padding) in
     let stands = kept_at b change h m s t.found in
     record {

@@ -4,7 +4,7 @@ use Rattle.std.specs.Prelude.{slice_get}
 use Rattle.std.specs.List.{enumerate_from, find, flat_map, list_all, range_with_len}
 use Rattle.std.specs.Str.{bytes_eq}
 use Rattle.std.proofs.lemmas.List.Folds.{list_all-append, list_all-map}
-use Rattle.byte_view.specs.Dynamic.{capacity_of, dynamic_capacity}
+use Rattle.byte_view.specs.Dynamic.{capacity_of, dynamic_capacity, entries_bytes}
 use Rattle.byte_view.specs.Headers.{e_phnum, headers, is_dynamic}
 use Rattle.byte_view.specs.declared.dynamic.Entry.{Entry}
 use Rattle.byte_view.specs.declared.segments.Segment.{Segment}
@@ -17,8 +17,8 @@ use Rattle.elf_rewrite.specs.NewTable.{entries_in, grown_by, new_place}
 use Rattle.elf_rewrite.specs.NewTexts.{is_done, wants_segment}
 use Rattle.elf_rewrite.specs.Patched.{range_of}
 use Rattle.elf_rewrite.specs.Ranges.{asked_ranges, from_place, need_ranges, ranges_of}
-use Rattle.elf_rewrite.specs.Rewriting.{file_for, file_patch, file_patches, layout_of, padded, rewriting, segment_patches, table_patch, table_written}
-use Rattle.elf_rewrite.specs.Words.{entries_bytes, word}
+use Rattle.elf_rewrite.specs.Rewriting.{file_for, file_patch, file_patches, layout_of, padded_entries, rewriting, segment_patches, table_patch, table_written}
+use Rattle.elf_rewrite.specs.Words.{word}
 use Rattle.elf_rewrite.specs.declared.change.Change.{Change}
 use Rattle.elf_rewrite.proofs.Fields.{word_long}
 use Rattle.elf_rewrite.proofs.Lengths.{capacity_is, entries_long, padded_long}
@@ -84,7 +84,7 @@ all_table P b entries room each = go (find is_dynamic (headers b)) refl
     go : (o : Option Segment) → find is_dynamic (headers b) ≡ o → list_all (λ q. P (range_of q)) (table_patch (dynamic_capacity b) entries o) ≡ true
     go None e = refl
     go (Some s) e =
-        let size : length (entries_bytes (padded (dynamic_capacity b) entries)) ≡ 16 * capacity_of s = entries_long (padded (dynamic_capacity b) entries) ∙ ap (λ n. 16 * n) (padded_long (dynamic_capacity b) entries room ∙ capacity_is b s e) in
+        let size : length (entries_bytes (padded_entries (dynamic_capacity b) entries)) ≡ 16 * capacity_of s = entries_long (padded_entries (dynamic_capacity b) entries) ∙ ap (λ n. 16 * n) (padded_long (dynamic_capacity b) entries room ∙ capacity_is b s e) in
         rw (size, each s e) refl
 
 -- what each thing that is written passes

@@ -4,7 +4,7 @@ use Rattle.std.specs.List.{enumerate_from, find, flat_map, zip}
 use Rattle.std.specs.Option.{option_map}
 use Rattle.std.specs.Int.{next_multiple_of}
 use Rattle.std.specs.Str.{bytes_eq}
-use Rattle.byte_view.specs.Dynamic.{dynamic_capacity, dynamic_entries, strings_at}
+use Rattle.byte_view.specs.Dynamic.{dynamic_capacity, dynamic_entries, strings_at, tagged, entries_bytes}
 use Rattle.byte_view.specs.Headers.{e_phnum, headers, is_dynamic}
 use Rattle.byte_view.specs.Memory.{range_in}
 use Rattle.byte_view.specs.declared.constants.TheConstants.{DT_NULL, PF_R, PF_W, PT_LOAD}
@@ -12,14 +12,13 @@ use Rattle.byte_view.specs.declared.dynamic.Entry.{Entry}
 use Rattle.byte_view.specs.declared.segments.Segment.{Segment}
 use Rattle.load_model.specs.VersionTables.{ask_needs_of, file_words_of}
 use Rattle.strtab_grow.specs.Growth.{Growth, added}
-use Rattle.two_files.specs.Entries.{tagged}
 use Rattle.two_files.specs.Kept.{Range}
 use Rattle.two_files.specs.NewHeaders.{SegmentPart, add_load, move_header}
 use Rattle.elf_rewrite.specs.NewSegment.{headers_size, segment_addr, segment_place}
 use Rattle.elf_rewrite.specs.NewTable.{entries_in, grown_by, new_place, new_size, old_size}
 use Rattle.elf_rewrite.specs.NewTexts.{ask_files, is_done, new_texts, wants_segment}
 use Rattle.elf_rewrite.specs.Pieces.{Overlay}
-use Rattle.elf_rewrite.specs.Words.{entries_bytes, table_bytes, word}
+use Rattle.elf_rewrite.specs.Words.{table_bytes, word}
 use Rattle.elf_rewrite.specs.declared.change.Change.{Change}
 use Rattle.elf_rewrite.specs.declared.change.TheConstants.{PAGE}
 use Rattle.elf_rewrite.specs.declared.layout.Layout.{Layout}
@@ -109,15 +108,16 @@ file_patches b change =
     (enumerate_from 0 (file_words_of b))
 
 -- Entries with zeros up to the capacity of a table.
-abbrev pub padded : ℕ → List Entry → List Entry
-padded capacity entries = entries ++ replicate (capacity - length entries) (tagged DT_NULL 0)
+abbrev pub padded_entries : ℕ → List Entry → List Entry
+padded_entries capacity entries =
+    entries ++ replicate (capacity - length entries) (tagged DT_NULL 0)
 
 -- The dynamic table at its old place.
 abbrev pub table_patch : ℕ → List Entry → Option Segment → List Patch
 table_patch capacity entries None = []
 table_patch capacity entries (Some s) = record {
   at = s.offset;
-  bytes = entries_bytes (padded capacity entries);
+  bytes = entries_bytes (padded_entries capacity entries);
 } ∷ []
 
 -- The old strings, as a part of the old file.

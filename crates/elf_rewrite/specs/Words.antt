@@ -1,14 +1,9 @@
 -- Words and headers as bytes.
 use Rattle.std.specs.Prelude.{ℕ, ◌<◌, ◌^◌, List, [], ◌∷◌, ◌++◌}
 use Rattle.std.specs.List.{flat_map}
-use Rattle.byteorder.specs.Endian.{little_bytes}
+use Rattle.byte_view.specs.Numbers.{word_bytes}
 use Rattle.byte_view.specs.declared.segments.Segment.{Segment}
 use Rattle.elf_rewrite.specs.declared.patch.Patch.{Patch}
-use Rattle.byte_view.specs.declared.dynamic.Entry.{Entry}
-
--- the word of n bytes
-unfoldable pub word_bytes : ℕ → ℕ → List ℕ
-word_bytes n x = little_bytes n x
 
 -- a word of n bytes written at a place
 abbrev pub word : ℕ → ℕ → ℕ → Patch
@@ -37,10 +32,3 @@ pub record IsWide (s : Segment) : Type 0 where
 
 abbrev pub table_bytes : List Segment → List ℕ
 table_bytes segments = flat_map (λ s. header_bytes s) segments
-
--- entries of the dynamic table as bytes
-unfoldable pub entry_bytes : Entry → List ℕ
-entry_bytes e = word_bytes 8 e.tag ++ word_bytes 8 e.value
-
-abbrev pub entries_bytes : List Entry → List ℕ
-entries_bytes entries = flat_map (λ e. entry_bytes e) entries

@@ -5,8 +5,9 @@
 ghost use Rattle.std.specs.Prelude.{◌≡◌, [], ◌∷◌, ◌++◌, IfOk, List, OnOk, drop, slice_index};
 ghost use Rattle.byte_view.specs.declared.constants.TheConstants.{DT_NEEDED, DT_NULL};
 ghost use Rattle.byte_view.specs.declared.dynamic.Entry.{Entry as OneEntry};
-ghost use Rattle.two_files.specs.Entries.{added_path, new_entries, new_value, rewritten, tagged, where_some};
-ghost use Rattle.elf_rewrite.specs.Rewriting.{padded};
+ghost use Rattle.byte_view.specs.Dynamic.{tagged};
+ghost use Rattle.two_files.specs.Entries.{added_path, new_entries, new_value, rewritten, where_some};
+ghost use Rattle.elf_rewrite.specs.Rewriting.{padded_entries};
 
 use crate::places::NewPlaces;
 use byte_view::Entry;
@@ -35,7 +36,7 @@ pub(crate) fn new_entries(
 /// Entries with zeros up to the capacity of a table.
 #[tactic(auto, using(crate::proofs::EntrySteps::padded_more, crate::proofs::EntrySteps::padded_full))]
 pub(crate) fn pad(out: &mut Vec<Entry>, capacity: usize) -> Result<(), NoMemory>
-    ensures { OnOk result (out.new.items ≡ padded capacity out.old.items) }
+    ensures { OnOk result (out.new.items ≡ padded_entries capacity out.old.items) }
 {
     while out.len() < capacity {
         push(out, DT_NULL, 0)?;

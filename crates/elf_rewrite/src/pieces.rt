@@ -3,15 +3,13 @@
 
 ghost use Rattle.std.specs.Prelude.{◌≡◌, ◌+◌, ◌-◌, ◌∷◌, ◌++◌, [], ◌<◌, ◌≤◌, ◌^◌, cond, IfOk, OnOk, length, map};
 ghost use Rattle.std.specs.List.{enumerate_from, find, flat_map};
-ghost use Rattle.byte_view.specs.Dynamic.{strings_at, strings_size};
+ghost use Rattle.byte_view.specs.Dynamic.{strings_at, strings_size, tagged, entries_bytes};
 ghost use Rattle.byte_view.specs.Headers.{is_dynamic};
 ghost use Rattle.byte_view.specs.Memory.{range_in};
 ghost use Rattle.byte_view.specs.declared.constants.TheConstants.{DT_NULL};
 ghost use Rattle.strtab_grow.specs.Growth.{added, size_of};
 ghost use Rattle.strtab_grow.specs.declared.texts.TheConstants.{TABLE_LIMIT};
-ghost use Rattle.two_files.specs.Entries.{tagged};
-ghost use Rattle.elf_rewrite.specs.Rewriting.{IsSmallLayout, ask_file_in, file_patch, padded, patches_by, pieces_by, strings_piece, table_patch, table_pieces};
-ghost use Rattle.elf_rewrite.specs.Words.{entries_bytes};
+ghost use Rattle.elf_rewrite.specs.Rewriting.{IsSmallLayout, ask_file_in, file_patch, padded_entries, patches_by, pieces_by, strings_piece, table_patch, table_pieces};
 
 use crate::entries::{end, pad};
 use crate::files::push_files;
@@ -85,7 +83,7 @@ pub(crate) fn push_table(
 
 /// Entries with zeros up to a capacity, as bytes.
 fn padded_bytes(alloc: Global, capacity: usize, entries: Vec<Entry>) -> Result<Text, NoMemory>
-    ensures { IfOk result (λ text. text ≡ entries_bytes (padded capacity entries.items)) }
+    ensures { IfOk result (λ text. text ≡ entries_bytes (padded_entries capacity entries.items)) }
 {
     let mut entries = entries;
     pad(&mut entries, capacity)?;

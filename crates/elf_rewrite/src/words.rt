@@ -2,7 +2,9 @@
 //! in `specs/Words.antt`.
 
 ghost use Rattle.std.specs.Prelude.{◌≡◌, ◌++◌, IfOk, OnOk};
-ghost use Rattle.elf_rewrite.specs.Words.{entries_bytes, entry_bytes, header_bytes, table_bytes, word, word_bytes};
+ghost use Rattle.byte_view.specs.Dynamic.{entries_bytes, entry_bytes};
+ghost use Rattle.byte_view.specs.Numbers.{word_bytes};
+ghost use Rattle.elf_rewrite.specs.Words.{header_bytes, table_bytes, word};
 
 use crate::patch::Patch;
 use byte_view::{Entry, Segment};
@@ -10,7 +12,7 @@ use load_model::{NoMemory, Text};
 use std::alloc::Global;
 
 /// A patch that writes a word of two bytes.
-#[tactic(auto, unfolding(crate::specs::Words::word_bytes))]
+#[tactic(auto, unfolding(byte_view::specs::Numbers::word_bytes))]
 pub(crate) fn half_patch(alloc: Global, at: usize, value: u16) -> Result<Patch, NoMemory>
     ensures { IfOk result (λ p. p ≡ word 2 at value) }
 {
@@ -19,7 +21,7 @@ pub(crate) fn half_patch(alloc: Global, at: usize, value: u16) -> Result<Patch, 
 }
 
 /// The same of four bytes.
-#[tactic(auto, unfolding(crate::specs::Words::word_bytes))]
+#[tactic(auto, unfolding(byte_view::specs::Numbers::word_bytes))]
 pub(crate) fn word_patch(alloc: Global, at: usize, value: u32) -> Result<Patch, NoMemory>
     ensures { IfOk result (λ p. p ≡ word 4 at value) }
 {
@@ -28,7 +30,7 @@ pub(crate) fn word_patch(alloc: Global, at: usize, value: u32) -> Result<Patch, 
 }
 
 /// The same of eight bytes.
-#[tactic(auto, unfolding(crate::specs::Words::word_bytes))]
+#[tactic(auto, unfolding(byte_view::specs::Numbers::word_bytes))]
 pub(crate) fn long_patch(alloc: Global, at: usize, value: u64) -> Result<Patch, NoMemory>
     ensures { IfOk result (λ p. p ≡ word 8 at value) }
 {
@@ -58,7 +60,7 @@ pub(crate) fn entries_bytes(alloc: Global, entries: &[Entry]) -> Result<Text, No
     Ok(Text::from_vec(bytes))
 }
 
-#[tactic(auto, unfolding(crate::specs::Words::entry_bytes))]
+#[tactic(auto, unfolding(byte_view::specs::Dynamic::entry_bytes))]
 fn push_entry(out: &mut Vec<u8>, entry: &Entry) -> Result<(), NoMemory>
     ensures { OnOk result (out.new.items ≡ out.old.items ++ entry_bytes entry.now) }
 {
@@ -94,7 +96,7 @@ fn push_sizes(out: &mut Vec<u8>, s: &Segment) -> Result<(), NoMemory>
     push_long(out, s.align)
 }
 
-#[tactic(auto, unfolding(crate::specs::Words::word_bytes))]
+#[tactic(auto, unfolding(byte_view::specs::Numbers::word_bytes))]
 fn push_word(out: &mut Vec<u8>, word: u32) -> Result<(), NoMemory>
     ensures { OnOk result (out.new.items ≡ out.old.items ++ word_bytes 4 word) }
 {
@@ -102,7 +104,7 @@ fn push_word(out: &mut Vec<u8>, word: u32) -> Result<(), NoMemory>
     Ok(())
 }
 
-#[tactic(auto, unfolding(crate::specs::Words::word_bytes))]
+#[tactic(auto, unfolding(byte_view::specs::Numbers::word_bytes))]
 fn push_long(out: &mut Vec<u8>, word: u64) -> Result<(), NoMemory>
     ensures { OnOk result (out.new.items ≡ out.old.items ++ word_bytes 8 word) }
 {

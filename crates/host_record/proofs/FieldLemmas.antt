@@ -2,9 +2,9 @@
 use Rattle.std.proofs.Common.{◌≡◌, ◌≢◌, ◌∙◌, sym, ℕ, ◌≤◌, List, [], ◌∷◌, ◌++◌, true, false, Bool, arith, subst}
 use Rattle.std.specs.Prelude.{Option, Some, None}
 use Rattle.std.proofs.lemmas.List.Elements.{All-nil, All-cons}
-use Rattle.load_model.specs.Escaping.{escaped, AreBytes}
-use Rattle.host_record.proofs.EscapedLemmas.{is_field}
-use Rattle.host_record.specs.Lines.{LookupBytes, OptionBytes, answer_field, class_field, look_fields, version_field}
+use Rattle.load_model.specs.Escaping.{escaped, AreBytes, version_text}
+use Rattle.load_model.proofs.Escaped.{is_field}
+use Rattle.host_record.specs.Lines.{LookupBytes, OptionBytes, answer_field, class_field, look_fields}
 use Rattle.host_record.specs.Fields.{AreFiveParts, IsFree, five_parts}
 use Rattle.host_record.specs.declared.lines.Lookup.{Lookup}
 use Rattle.host_record.specs.declared.lookups.Parts.{Parts}
@@ -19,7 +19,7 @@ name_free name p = All_weaker (λ c. (0x21 ≤ c) × (c ≤ 0x7e)) (λ y. y ≢ 
 one_free : (c : ℕ) → c ≢ 32 → IsFree 32 (c ∷ [])
 one_free c h = All-cons (λ y. y ≢ 32) c [] h (All-nil (λ y. y ≢ 32))
 
-version_free : (version : Option (List ℕ)) → OptionBytes version → IsFree 32 (version_field version)
+version_free : (version : Option (List ℕ)) → OptionBytes version → IsFree 32 (version_text version)
 version_free None p = one_free 45 (λ e. omega arith)
 version_free (Some name) p = name_free name p
 
@@ -50,13 +50,13 @@ same_parts a b c d e v w x y z fa fb fc fd fv fw fx fy h =
 pub record SameFields (a b : Lookup) : Type 0 where
   pub lib : escaped a.lib ≡ escaped b.lib
   pub name : escaped a.name ≡ escaped b.name
-  pub version : version_field a.version ≡ version_field b.version
+  pub version : version_text a.version ≡ version_text b.version
   pub class : class_field a.call ≡ class_field b.call
   pub answer : answer_field a.answer ≡ answer_field b.answer
 
 pub same_fields : (a b : Lookup) → LookupBytes a → LookupBytes b → look_fields a ≡ look_fields b → SameFields a b
 same_fields a b p q h =
-    let s = same_parts (escaped a.lib) (escaped a.name) (version_field a.version) (class_field a.call) (answer_field a.answer) (escaped b.lib) (escaped b.name) (version_field b.version) (class_field b.call) (answer_field b.answer)
+    let s = same_parts (escaped a.lib) (escaped a.name) (version_text a.version) (class_field a.call) (answer_field a.answer) (escaped b.lib) (escaped b.name) (version_text b.version) (class_field b.call) (answer_field b.answer)
     (name_free a.lib p.lib) (name_free a.name p.name) (version_free a.version p.version) (class_free a.call) (name_free b.lib q.lib) (name_free b.name q.name) (version_free b.version q.version) (class_free b.call) h in
     record { lib = s.first; name = s.second; version = s.third; class = s.fourth; answer = s.fifth }
 
@@ -64,18 +64,18 @@ same_fields a b p q h =
 pub record HasFieldsOf (p : Parts) (l : Lookup) : Type 0 where
   pub lib : p.lib.now ≡ escaped l.lib
   pub name : p.name.now ≡ escaped l.name
-  pub version : p.version.now ≡ version_field l.version
+  pub version : p.version.now ≡ version_text l.version
   pub class : p.class.now ≡ class_field l.call
   pub answer : p.answer.now ≡ answer_field l.answer
 
 pub parts_of_look : (text : List ℕ) (p : Parts) (l : Lookup) → AreFiveParts text p → LookupBytes l → text ≡ look_fields l → HasFieldsOf p l
 parts_of_look text p l a b e =
-    let s = same_parts p.lib.now p.name.now p.version.now p.class.now p.answer.now (escaped l.lib) (escaped l.name) (version_field l.version) (class_field l.call) (answer_field l.answer)
+    let s = same_parts p.lib.now p.name.now p.version.now p.class.now p.answer.now (escaped l.lib) (escaped l.name) (version_text l.version) (class_field l.call) (answer_field l.answer)
     a.lib a.name a.version a.class (name_free l.lib b.lib) (name_free l.name b.name) (version_free l.version b.version) (class_free l.call) (sym a.whole ∙ e) in
     record { lib = s.first; name = s.second; version = s.third; class = s.fourth; answer = s.fifth }
 
 -- a text that is no five parts is the fields of no look
 pub no_parts : (text : List ℕ) (l : Lookup) → ((a b c d e : List ℕ) → IsFree 32 a → IsFree 32 b → IsFree 32 c → IsFree 32 d → text ≡ five_parts a b c d e → ⊥) → LookupBytes l → text ≡ look_fields l → ⊥
 no_parts text l none p e =
-    none (escaped l.lib) (escaped l.name) (version_field l.version) (class_field l.call) (answer_field l.answer)
+    none (escaped l.lib) (escaped l.name) (version_text l.version) (class_field l.call) (answer_field l.answer)
     (name_free l.lib p.lib) (name_free l.name p.name) (version_free l.version p.version) (class_free l.call) e

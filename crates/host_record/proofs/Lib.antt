@@ -1,4 +1,3 @@
-mod EscapedLemmas
 mod MappedLemmas
 mod UnescapingLemmas
 mod CutLemmas

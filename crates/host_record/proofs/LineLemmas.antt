@@ -8,9 +8,9 @@ use Rattle.std.proofs.lemmas.Bool.{eqb-false, and_parts, not-true}
 use Rattle.std.proofs.lemmas.Fmt.{digits_decimal, digits_value-decimal}
 use Rattle.std.proofs.lemmas.Str.Parse.{IsNumeralModel, tells_digits}
 use Rattle.std.proofs.lemmas.List.Elements.{All-nil, All-cons, All-append, All-weaker}
-use Rattle.load_model.specs.Escaping.{escaped, AreBytes}
-use Rattle.host_record.proofs.EscapedLemmas.{told, is_field}
-use Rattle.host_record.specs.Lines.{AnswerBytes, IsRecordLine, LookupBytes, OptionBytes, answer_field, class_field, ended_line, line_text, look_fields, version_field, version_fields}
+use Rattle.load_model.specs.Escaping.{escaped, AreBytes, version_text}
+use Rattle.load_model.proofs.Escaped.{told, is_field}
+use Rattle.host_record.specs.Lines.{AnswerBytes, IsRecordLine, LookupBytes, OptionBytes, answer_field, class_field, ended_line, line_text, look_fields, version_fields}
 use Rattle.host_record.specs.declared.lines.Line.{Line}
 use Rattle.host_record.specs.declared.lines.Line.TheVariants.{Head, Machine, Interp, Declare, Need, Require, Ask, End}
 use Rattle.host_record.specs.declared.lines.Lookup.{Lookup}
@@ -43,7 +43,7 @@ above c p e = omega arith
 name_ends : (name : List ℕ) → AreBytes name → All (λ y. y ≢ 10) (escaped name)
 name_ends name p = All-weaker (λ c. (0x21 ≤ c) × (c ≤ 0x7e)) (λ y. y ≢ 10) above (escaped name) (is_field name p).printed
 
-version_ends : (version : Option (List ℕ)) → OptionBytes version → All (λ y. y ≢ 10) (version_field version)
+version_ends : (version : Option (List ℕ)) → OptionBytes version → All (λ y. y ≢ 10) (version_text version)
 version_ends None p = free 10 (45 ∷ []) refl
 version_ends (Some name) p = name_ends name p
 
@@ -64,7 +64,7 @@ look_ends : (l : Lookup) → LookupBytes l → All (λ y. y ≢ 10) (look_fields
 look_ends l p =
     field_more (escaped l.lib) _ (name_ends l.lib p.lib)
     (field_more (escaped l.name) _ (name_ends l.name p.name)
-    (field_more (version_field l.version) _ (version_ends l.version p.version)
+    (field_more (version_text l.version) _ (version_ends l.version p.version)
     (field_more (class_field l.call) _ (class_ends l.call) (answer_ends l.answer p.answer))))
 
 pub line_ends : (line : Line) → IsRecordLine line → All (λ y. y ≢ 10) (line_text line)
@@ -104,7 +104,7 @@ differ k l d e = eqb-false (third k) (third l) d (sym (third_is k) ∙ (ap (λ t
 not_dash : (name : List ℕ) → AreBytes name → 45 ∷ [] ≡ escaped name → ⊥
 not_dash name p e = (is_field name p).named (sym e)
 
-same_version : (v w : Option (List ℕ)) → OptionBytes v → OptionBytes w → version_field v ≡ version_field w → v ≡ w
+same_version : (v w : Option (List ℕ)) → OptionBytes v → OptionBytes w → version_text v ≡ version_text w → v ≡ w
 same_version None None p q e = refl
 same_version None (Some b) p q e = absurd (not_dash b q e)
 same_version (Some a) None p q e = absurd (not_dash a p (sym e))

@@ -7,7 +7,7 @@ use Rattle.path_text.specs.declared.absolute.PathFault.{PathFault}
 use Rattle.path_text.specs.declared.absolute.PathFault.TheVariants.{Empty, Relative, HasNul, NotText, NoMemory}
 use Rattle.path_text.proofs.PathLemmas.{path_of-IsNormalPath}
 use Rattle.load_model.specs.Escaping.{escaped}
-use Rattle.host_record.proofs.EscapedLemmas.{told}
+use Rattle.load_model.proofs.Escaped.{told}
 use Rattle.host_record.specs.Lines.{IsPathBytes}
 use Rattle.host_record.specs.Unescaping.{IsEscaped}
 

@@ -3,12 +3,12 @@ use Rattle.std.proofs.Common.{◌≡◌, ◌∙◌, sym, ap, refl, ℕ, zero, su
 use Rattle.std.specs.Prelude.{codes, slice_index_or}
 use Rattle.std.specs.List.{flat_map}
 use Rattle.std.proofs.lemmas.Grind.{flat_map-append}
-use Rattle.host_record.specs.Lines.{answer_field, class_field, ended_line, text_of_lines, version_field}
+use Rattle.host_record.specs.Lines.{answer_field, class_field, ended_line, text_of_lines}
 use Rattle.host_record.specs.Said.{lib_names}
 use Rattle.host_record.specs.Grammar.{library_lines, look_line, record_text, lib_name_at, version_line}
 use Rattle.host_record.specs.declared.lines.Line.{Line}
 use Rattle.host_record.specs.declared.lines.Line.TheVariants.{Head, Machine, Interp, Ask, End}
-use Rattle.load_model.specs.Escaping.{escaped}
+use Rattle.load_model.specs.Escaping.{escaped, version_text}
 use Rattle.host_record.specs.declared.lines.Lookup.{Lookup}
 use Rattle.host_record.specs.declared.records.Record.{Record}
 use Rattle.host_record.specs.declared.records.RecLib.{RecLib}
@@ -59,14 +59,14 @@ nested : (a b c d k e : List ℕ) → (((((((a ++ b) ++ 32 ∷ []) ++ c) ++ 32 �
 nested a b c d k e = simp append_assoc refl
 
 -- a look is written in nine pieces
-pub look_written : (l : Lookup) (o p q r s t u v w x : List ℕ) → p ≡ o ++ codes "look " → q ≡ p ++ escaped l.lib → r ≡ q ++ 32 ∷ [] → s ≡ r ++ escaped l.name → t ≡ s ++ 32 ∷ [] → u ≡ t ++ version_field l.version → v ≡ u ++ 32 ∷ (class_field l.call ++ 32 ∷ []) → w ≡ v ++ answer_field l.answer → x ≡ w ++ 10 ∷ [] → x ≡ o ++ ended_line (Ask l)
+pub look_written : (l : Lookup) (o p q r s t u v w x : List ℕ) → p ≡ o ++ codes "look " → q ≡ p ++ escaped l.lib → r ≡ q ++ 32 ∷ [] → s ≡ r ++ escaped l.name → t ≡ s ++ 32 ∷ [] → u ≡ t ++ version_text l.version → v ≡ u ++ 32 ∷ (class_field l.call ++ 32 ∷ []) → w ≡ v ++ answer_field l.answer → x ≡ w ++ 10 ∷ [] → x ≡ o ++ ended_line (Ask l)
 look_written l o p q r s t u v w x a b c d e f g h i =
     let two = after o p q (codes "look ") (escaped l.lib) a b in
     let three = after o q r (codes "look " ++ escaped l.lib) (32 ∷ []) two c in
     let four = after o r s ((codes "look " ++ escaped l.lib) ++ 32 ∷ []) (escaped l.name) three d in
     let five = after o s t (((codes "look " ++ escaped l.lib) ++ 32 ∷ []) ++ escaped l.name) (32 ∷ []) four e in
-    let six = after o t u ((((codes "look " ++ escaped l.lib) ++ 32 ∷ []) ++ escaped l.name) ++ 32 ∷ []) (version_field l.version) five f in
-    let seven = after o u v (((((codes "look " ++ escaped l.lib) ++ 32 ∷ []) ++ escaped l.name) ++ 32 ∷ []) ++ version_field l.version) (32 ∷ (class_field l.call ++ 32 ∷ [])) six g in
-    let eight = after o v w ((((((codes "look " ++ escaped l.lib) ++ 32 ∷ []) ++ escaped l.name) ++ 32 ∷ []) ++ version_field l.version) ++ 32 ∷ (class_field l.call ++ 32 ∷ [])) (answer_field l.answer) seven h in
-    let nine = after o w x (((((((codes "look " ++ escaped l.lib) ++ 32 ∷ []) ++ escaped l.name) ++ 32 ∷ []) ++ version_field l.version) ++ 32 ∷ (class_field l.call ++ 32 ∷ [])) ++ answer_field l.answer) (10 ∷ []) eight i in
-    nine ∙ ap (λ k. o ++ k) (nested (codes "look ") (escaped l.lib) (escaped l.name) (version_field l.version) (class_field l.call) (answer_field l.answer))
+    let six = after o t u ((((codes "look " ++ escaped l.lib) ++ 32 ∷ []) ++ escaped l.name) ++ 32 ∷ []) (version_text l.version) five f in
+    let seven = after o u v (((((codes "look " ++ escaped l.lib) ++ 32 ∷ []) ++ escaped l.name) ++ 32 ∷ []) ++ version_text l.version) (32 ∷ (class_field l.call ++ 32 ∷ [])) six g in
+    let eight = after o v w ((((((codes "look " ++ escaped l.lib) ++ 32 ∷ []) ++ escaped l.name) ++ 32 ∷ []) ++ version_text l.version) ++ 32 ∷ (class_field l.call ++ 32 ∷ [])) (answer_field l.answer) seven h in
+    let nine = after o w x (((((((codes "look " ++ escaped l.lib) ++ 32 ∷ []) ++ escaped l.name) ++ 32 ∷ []) ++ version_text l.version) ++ 32 ∷ (class_field l.call ++ 32 ∷ [])) ++ answer_field l.answer) (10 ∷ []) eight i in
+    nine ∙ ap (λ k. o ++ k) (nested (codes "look ") (escaped l.lib) (escaped l.name) (version_text l.version) (class_field l.call) (answer_field l.answer))

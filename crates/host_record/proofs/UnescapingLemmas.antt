@@ -5,8 +5,8 @@ use Rattle.std.proofs.lemmas.Bool.{and_parts, leb-true}
 use Rattle.std.specs.Str.{bytes_eq}
 use Rattle.std.proofs.lemmas.List.Elements.{All-cons, All-head, All-nil, All-tail}
 use Rattle.load_model.specs.Escaping.{is_plain, escaped_byte, escaped, AreBytes, hex_digit}
-use Rattle.host_record.proofs.EscapedLemmas.{byte_same, byte_some, way, Way, same_bytes}
-use Rattle.host_record.proofs.EscapedLemmas.Way.{Nothing, Dash, Bytes}
+use Rattle.load_model.proofs.Escaped.{byte_same, byte_some, way, Way, same_bytes}
+use Rattle.load_model.proofs.Escaped.Way.{Nothing, Dash, Bytes}
 
 -- where the bytes so far are written and no byte's form follows, no bytes are written
 pub none_so : (out bytes rest : List ℕ) → AreBytes out → AreBytes bytes → flat_map escaped_byte out ++ rest ≡ flat_map escaped_byte bytes → 0 < length rest → ((byte : ℕ) (more : List ℕ) → byte ≤ 255 → rest ≡ escaped_byte byte ++ more → ⊥) → ⊥

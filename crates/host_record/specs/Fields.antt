@@ -2,8 +2,8 @@
 use Rattle.std.specs.Borrow.{Bor}
 use Rattle.std.specs.Prelude.{◌≡◌, ◌≢◌, ◌≤◌, ℕ, List, ◌∷◌, ◌++◌, Bool, Option, Some, None, All}
 use Rattle.std.specs.Fmt.{decimal}
-use Rattle.load_model.specs.Escaping.{AreBytes, escaped}
-use Rattle.host_record.specs.Lines.{AnswerBytes, IsPathBytes, IsRecordLine, LookupBytes, OptionBytes, answer_field, class_field, line_text, look_fields, version_field, version_fields}
+use Rattle.load_model.specs.Escaping.{AreBytes, escaped, version_text}
+use Rattle.host_record.specs.Lines.{AnswerBytes, IsPathBytes, IsRecordLine, LookupBytes, OptionBytes, answer_field, class_field, line_text, look_fields, version_fields}
 use Rattle.host_record.specs.declared.lines.Line.{Line}
 use Rattle.host_record.specs.declared.lines.Lookup.{Lookup}
 use Rattle.host_record.specs.declared.lookups.Parts.{Parts}
@@ -24,9 +24,9 @@ IsPathField field (Some path) = IsPathBytes path × (field ≡ escaped path)
 IsPathField field None = (path : List ℕ) → IsPathBytes path → field ≡ escaped path → ⊥
 
 abbrev pub IsVersionField : List ℕ → Option (Option (List ℕ)) → Type 0
-IsVersionField field (Some version) = OptionBytes version × (field ≡ version_field version)
+IsVersionField field (Some version) = OptionBytes version × (field ≡ version_text version)
 IsVersionField field None =
-    (version : Option (List ℕ)) → OptionBytes version → field ≡ version_field version → ⊥
+    (version : Option (List ℕ)) → OptionBytes version → field ≡ version_text version → ⊥
 
 abbrev pub IsClassField : List ℕ → Option Bool → Type 0
 IsClassField field (Some call) = field ≡ class_field call

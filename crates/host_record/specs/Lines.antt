@@ -4,17 +4,12 @@ use Rattle.std.specs.Prelude.{◌≤◌, ℕ, List, ◌∷◌, [], ◌++◌, Boo
 use Rattle.std.specs.List.{flat_map}
 use Rattle.std.specs.Fmt.{decimal}
 use Rattle.path_text.specs.Path.{IsNormalPath}
-use Rattle.load_model.specs.Escaping.{AreBytes, escaped}
+use Rattle.load_model.specs.Escaping.{AreBytes, escaped, version_text}
 use Rattle.host_record.specs.declared.lines.Line.{Line}
 use Rattle.host_record.specs.declared.lines.Line.TheVariants.{Head, Machine, Interp, Declare, Need, Require, Ask, End}
 use Rattle.host_record.specs.declared.lines.Lookup.{Lookup}
 use Rattle.host_record.specs.declared.records.Answer.{Answer}
 use Rattle.host_record.specs.declared.records.Answer.TheVariants.{Nothing, Plain, Version}
-
--- A version, or `-` for none.
-abbrev pub version_field : Option (List ℕ) → List ℕ
-version_field None = 45 ∷ []
-version_field (Some version) = escaped version
 
 -- A call, or a plain reference.
 abbrev pub class_field : Bool → List ℕ
@@ -36,7 +31,7 @@ abbrev pub look_fields : Lookup → List ℕ
 look_fields l =
     escaped l.lib
     ++ 32 ∷ (escaped l.name
-    ++ 32 ∷ (version_field l.version ++ 32 ∷ (class_field l.call ++ 32 ∷ answer_field l.answer)))
+    ++ 32 ∷ (version_text l.version ++ 32 ∷ (class_field l.call ++ 32 ∷ answer_field l.answer)))
 
 abbrev pub line_text : Line → List ℕ
 line_text Head = codes "appdir-host 1"

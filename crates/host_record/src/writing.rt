@@ -4,7 +4,8 @@ ghost use Rattle.std.specs.Prelude.{◌≡◌, ◌∷◌, [], ◌++◌, ◌<◌,
 ghost use Rattle.std.specs.List.{AllByRecursion, flat_map};
 ghost use Rattle.host_record.specs.Canonical.{IsCanonical, IsLookOver, IsVersionOver};
 ghost use Rattle.host_record.specs.Grammar.{lib_name_at, library_lines, look_line, lookup_in, record_text, version_line};
-ghost use Rattle.host_record.specs.Lines.{answer_field, class_field, ended_line, text_of_lines, version_field};
+ghost use Rattle.load_model.specs.Escaping.{version_text};
+ghost use Rattle.host_record.specs.Lines.{answer_field, class_field, ended_line, text_of_lines};
 ghost use Rattle.host_record.specs.Said.{lib_names};
 ghost use Rattle.host_record.specs.declared.lines.Line.TheVariants.{Ask as AskLine, Interp as InterpLine, Machine as MachineLine, Need as NeedLine, Require as RequireLine};
 
@@ -148,7 +149,7 @@ fn push_look(out: &mut Vec<u8>, lib: &Name, look: &Look) -> Result<(), NoMemory>
 
 /// Adds a version, or `-` for none.
 fn push_version_field(out: &mut Vec<u8>, version: &Option<Name>) -> Result<(), NoMemory>
-    ensures { OnOk result (out.new.items ≡ out.old.items ++ version_field version.now) }
+    ensures { OnOk result (out.new.items ≡ out.old.items ++ version_text version.now) }
 {
     match version {
         Some(name) => escape_onto(out, name.as_bytes()),

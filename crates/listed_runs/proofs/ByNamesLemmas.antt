@@ -10,7 +10,7 @@ use Rattle.byte_view.specs.declared.flaws.Flaw.{Flaw}
 use Rattle.path_text.specs.FileName.{IsFileName}
 use Rattle.load_model.specs.LoadList.{Object, Request, Asked, Loaded, needs_from, requests_of}
 use Rattle.load_model.specs.Loads.{IsLoadList}
-use Rattle.load_model.specs.Runs.{target_in}
+use Rattle.load_model.specs.Runs.{target_in, face_of_object}
 use Rattle.load_model.specs.SameNames.{HasNoRunPath, IsByNames, key_of}
 use Rattle.load_model.specs.World.{World}
 use Rattle.load_model.specs.declared.faces.Face.{Face}
@@ -20,7 +20,7 @@ use Rattle.load_model.proofs.Counts.{slice_get-append}
 use Rattle.load_model.proofs.LoadLists.{forget, name_has_target}
 use Rattle.load_model.proofs.Places.{slice_get-take}
 use Rattle.load_model.proofs.TwoWorlds.{same_bytes}
-use Rattle.listed_runs.specs.Fitting.{face_of_object, fits_as_object, fits_as_program, fits_need, has_key, has_listed_interpreter, is_all_listed, is_on_list}
+use Rattle.listed_runs.specs.Fitting.{fits_as_object, fits_as_program, fits_need, has_key, has_listed_interpreter, is_all_listed, is_on_list}
 
 none_is : {A : Type 0} (o : Option A) → is_none o ≡ true → o ≡ None
 none_is None h = refl

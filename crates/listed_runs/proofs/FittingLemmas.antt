@@ -1,19 +1,19 @@
 -- A run has the same answer as the load list that it says, on whether all of it is listed.
-use Rattle.std.proofs.Common.{ℕ, zero, suc, List, [], ◌∷◌, ◌++◌, ◌+◌, ◌<◌, Bool, ◌&&◌, not, ◌==◌, ◌≡◌, refl, ap, ap₂, sym, ◌∙◌, length, length-append, map, Option, Some, None, is_none, slice_get, arith, inl, inr}
-use Rattle.std.proofs.lemmas.Bool.{cases_lt}
+use Rattle.std.proofs.Common.{ℕ, suc, List, [], ◌∷◌, ◌+◌, ◌<◌, Bool, ◌&&◌, not, ◌==◌, ◌≡◌, refl, ap, ap₂, sym, ◌∙◌, length, map, Option, Some, None, is_none, slice_get, arith}
 use Rattle.std.proofs.lemmas.Option.{slice_get_within}
 use Rattle.std.specs.List.{list_all, range_with_len, zip}
 use Rattle.std.specs.Option.{unwrap_or}
 use Rattle.path_text.specs.Path.{base_of}
 use Rattle.load_model.proofs.AskedNeeds.{map_get}
-use Rattle.load_model.proofs.Counts.{slice_get_left}
+use Rattle.load_model.proofs.NumberLemmas.{number_at}
+use Rattle.load_model.proofs.SameListLemmas.{none_too, same_face, there_too}
 use Rattle.load_model.specs.LoadList.{Loaded, Object, up_to}
 use Rattle.load_model.specs.Runs.{IsRunOf, face_at, need_targets, needs_at, target_in}
 use Rattle.load_model.specs.SameNames.{key_of}
 use Rattle.load_model.specs.declared.faces.Face.{Face}
 use Rattle.load_model.specs.declared.runs.Obj.{Obj}
 use Rattle.load_model.specs.declared.runs.Run.{Run}
-use Rattle.listed_runs.specs.Fitting.{face_of_object, fits_as_object, fits_as_program, fits_need, has_key, is_all_listed, is_key, is_on_list, key_at, run_fits_need, run_fits_object, run_is_all_listed}
+use Rattle.listed_runs.specs.Fitting.{fits_as_object, fits_as_program, fits_need, has_key, is_all_listed, is_key, is_on_list, key_at, run_fits_need, run_fits_object, run_is_all_listed}
 
 -- a test of numbers and one of elements that agree by place
 all_by_places : {X : Type 0} (f : ℕ → Bool) (g : X → Bool) (k : ℕ) (xs : List X) → ((j : ℕ) (x : X) → slice_get xs j ≡ Some x → f (k + j) ≡ g x) → list_all f (range_with_len k (length xs)) ≡ list_all g xs
@@ -34,45 +34,6 @@ all_same f g (x ∷ xs) h = ap₂ ◌&&◌ (h x) (all_same f g xs h)
 all_zipped : {A : Type 0} {B : Type 0} (p : A → B → Bool) (f : A → B) (xs : List A) → list_all (λ q. p q.0 q.1) (zip xs (map f xs)) ≡ list_all (λ x. p x (f x)) xs
 all_zipped p f [] = refl
 all_zipped p f (x ∷ xs) = ap (λ b. p x (f x) && b) (all_zipped p f xs)
-
-length-up_to : (n : ℕ) → length (up_to n) ≡ n
-unfolding up_to
-length-up_to zero = refl
-length-up_to (suc n) =
-    let one = length-append (up_to n) (n ∷ []) in
-    let rest = length-up_to n in
-    omega (arith, one, rest)
-
-last_stands : (xs : List ℕ) (x : ℕ) → slice_get (xs ++ x ∷ []) (length xs) ≡ Some x
-last_stands [] x = refl
-last_stands (y ∷ xs) x = last_stands xs x
-
--- each number stands at its own place
-number_at : (n j : ℕ) → j < n → slice_get (up_to n) j ≡ Some j
-unfolding up_to
-number_at zero j h = absurd (omega arith)
-number_at (suc n) j h =
-    elim (cases_lt j n) [
-      | inl a ↦ slice_get_left (up_to n) (n ∷ []) j j (number_at n j a)
-      | inr a ↦
-          let here : j ≡ n = omega arith in
-          let place : n ≡ length (up_to n) = sym (length-up_to n) in
-          ap (slice_get (up_to n ++ n ∷ [])) (here ∙ place) ∙ last_stands (up_to n) n ∙ ap Some (sym here)
-    ]
-
--- as long a list has an element there too
-pub there_too : {X : Type 0} {Y : Type 0} (xs : List X) (ys : List Y) (j : ℕ) (x : X) → length ys ≡ length xs → slice_get xs j ≡ Some x → (y : Y) × (slice_get ys j ≡ Some y)
-there_too [] ys j x e h = cc
-there_too (z ∷ xs) [] j x e h = absurd (omega (arith, e))
-there_too (z ∷ xs) (y ∷ ys) zero x e h = (y, refl)
-there_too (z ∷ xs) (y ∷ ys) (suc j) x e h = there_too xs ys j x (omega (arith, e)) h
-
-pub none_too : {X : Type 0} {Y : Type 0} (xs : List X) (ys : List Y) (j : ℕ) → length ys ≡ length xs → slice_get xs j ≡ None → slice_get ys j ≡ None
-none_too [] [] j e h = refl
-none_too [] (y ∷ ys) j e h = absurd (omega (arith, e))
-none_too (z ∷ xs) [] j e h = absurd (omega (arith, e))
-none_too (z ∷ xs) (y ∷ ys) zero e h = absurd (cc)
-none_too (z ∷ xs) (y ∷ ys) (suc j) e h = none_too xs ys j (omega (arith, e)) h
 
 module _ (names : List (List ℕ)) (faces : List Face) (loaded : Loaded) (ends : List Loaded) (run : Run) (run_is : IsRunOf faces [] loaded ends run) where
   -- what the run has of an object
@@ -101,10 +62,6 @@ module _ (names : List (List ℕ)) (faces : List Face) (loaded : Loaded) (ends :
       let w = there_too loaded.objs run.objs j o run_is.count stands in
       object_in_run j o w.0 stands w.1
 
-  pub same_face : (j : ℕ) (found : Option Object) → slice_get loaded.objs j ≡ found → face_at faces run j ≡ face_of_object found
-  same_face j None h = rw (none_too loaded.objs run.objs j run_is.count h) refl
-  same_face j (Some o) h = (object_is j o h).face
-
   same_key : (need : List ℕ) (j : ℕ) (found : Option Object) → slice_get loaded.objs j ≡ found → is_key need (key_at faces run j) ≡ has_key need found
   same_key need j None h = rw (none_too loaded.objs run.objs j run_is.count h) refl
   same_key need j (Some o) h = ap (is_key need) (object_is j o h).key
@@ -124,7 +81,7 @@ module _ (names : List (List ℕ)) (faces : List Face) (loaded : Loaded) (ends :
   same_answer : run_is_all_listed names faces run ≡ is_all_listed names loaded
   unfolding run_is_all_listed is_all_listed
   same_answer =
-      let program = ap (fits_as_program names) (same_face 0 (slice_get loaded.objs 0) refl) in
+      let program = ap (fits_as_program names) (same_face faces loaded ends run run_is 0 (slice_get loaded.objs 0) refl) in
       let count = ap (λ n. list_all (run_fits_object names faces run) (range_with_len 0 n)) run_is.count in
       let z : (j : ℕ) → 0 + j ≡ j = λ j. omega arith in
       let objects = all_by_places (run_fits_object names faces run) (fits_as_object names loaded) 0 loaded.objs (λ j o h. ap (run_fits_object names faces run) (z j) ∙ same_object j o h) in

@@ -7,7 +7,7 @@ use Rattle.std.specs.Result.{result_ok}
 use Rattle.std.specs.Str.{bytes_eq}
 use Rattle.path_text.specs.Path.{base_of, path_of}
 use Rattle.load_model.specs.LoadList.{Loaded, Object}
-use Rattle.load_model.specs.Runs.{face_at, target_in}
+use Rattle.load_model.specs.Runs.{face_at, face_of_object, target_in}
 use Rattle.load_model.specs.SameNames.{key_of}
 use Rattle.load_model.specs.declared.faces.Face.{Face}
 use Rattle.load_model.specs.declared.runs.Obj.{Obj}
@@ -48,10 +48,6 @@ abbrev pub fits_as_object : List (List ℕ) → Loaded → Object → Bool
 fits_as_object names loaded o =
     is_none o.face.rpath
     && (is_none o.face.runpath && list_all (fits_need names loaded) o.face.needs)
-
-abbrev pub face_of_object : Option Object → Option Face
-face_of_object None = None
-face_of_object (Some o) = Some o.face
 
 unfoldable pub is_all_listed : List (List ℕ) → Loaded → Bool
 is_all_listed names loaded =

@@ -30,7 +30,7 @@ digit_same false false m n d e h g same = omega arith
 abbrev hidden : ℕ → List ℕ
 hidden c = 0x5c ∷ 120 ∷ hex_digit (c / 16) ∷ hex_digit (c % 16) ∷ []
 
-byte_same : (a b : Bool) (x y : ℕ) (r s : List ℕ) → is_plain x ≡ a → is_plain y ≡ b → x ≤ 255 → y ≤ 255 → cond a (x ∷ []) (hidden x) ++ r ≡ cond b (y ∷ []) (hidden y) ++ s → (x ≡ y) × (r ≡ s)
+pub byte_same : (a b : Bool) (x y : ℕ) (r s : List ℕ) → is_plain x ≡ a → is_plain y ≡ b → x ≤ 255 → y ≤ 255 → cond a (x ∷ []) (hidden x) ++ r ≡ cond b (y ∷ []) (hidden y) ++ s → (x ≡ y) × (r ≡ s)
 byte_same true true x y r s p q h g same = (cc, cc)
 byte_same true false x y r s p q h g same = let e : x ≡ 0x5c = cc in absurd ((plain_range x p).2 e)
 byte_same false true x y r s p q h g same = let e : y ≡ 0x5c = cc in absurd ((plain_range y q).2 e)
@@ -41,7 +41,7 @@ byte_same false false x y r s p q h g same =
     let low : x % 16 ≡ y % 16 = digit_same (nat_lt (x % 16) 10) (nat_lt (y % 16) 10) (x % 16) (y % 16) refl refl (omega arith) (omega arith) second in
     (omega arith, cc)
 
-byte_some : (a : Bool) (x : ℕ) (r : List ℕ) → cond a (x ∷ []) (hidden x) ++ r ≡ [] → ⊥
+pub byte_some : (a : Bool) (x : ℕ) (r : List ℕ) → cond a (x ∷ []) (hidden x) ++ r ≡ [] → ⊥
 byte_some true x r h = cc
 byte_some false x r h = cc
 
@@ -83,12 +83,12 @@ flat_not_dash [] s p h = cc
 flat_not_dash (x ∷ xs) s p h = not_dash (is_plain x) x (flat_map escaped_byte xs) s (All-head (λ c. c ≤ 255) x xs p) refl h
 
 -- the three ways of writing
-data Way (bytes text : List ℕ) : Type 0 where
+pub data Way (bytes text : List ℕ) : Type 0 where
   Nothing : bytes ≡ [] → text ≡ 0x5c ∷ 101 ∷ [] → Way bytes text
   Dash : bytes ≡ 45 ∷ [] → text ≡ 0x5c ∷ 120 ∷ 50 ∷ 100 ∷ [] → Way bytes text
   Bytes : (bytes ≡ [] → ⊥) → (bytes ≡ 45 ∷ [] → ⊥) → text ≡ flat_map escaped_byte bytes → Way bytes text
 
-same_bytes : (xs ys : List ℕ) → bytes_eq xs ys ≡ true → xs ≡ ys
+pub same_bytes : (xs ys : List ℕ) → bytes_eq xs ys ≡ true → xs ≡ ys
 same_bytes xs ys h = same_text xs ys (sym h)
 
 not_bytes : (xs ys : List ℕ) → bytes_eq ys ys ≡ true → bytes_eq xs ys ≡ false → xs ≡ ys → ⊥
@@ -99,7 +99,7 @@ way_at true b bytes p q = Nothing (same_bytes bytes [] p) refl
 way_at false true bytes p q = Dash (same_bytes bytes (45 ∷ []) q) refl
 way_at false false bytes p q = Bytes (not_bytes bytes [] refl p) (not_bytes bytes (45 ∷ []) refl q) refl
 
-way : (bytes : List ℕ) → Way bytes (escaped bytes)
+pub way : (bytes : List ℕ) → Way bytes (escaped bytes)
 way bytes = way_at (bytes_eq bytes []) (bytes_eq bytes (45 ∷ [])) bytes refl refl
 
 ways : (xs ys t u : List ℕ) → AreBytes xs → AreBytes ys → t ≡ u → Way xs t → Way ys u → xs ≡ ys

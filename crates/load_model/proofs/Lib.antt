@@ -1,4 +1,4 @@
-mod Escaped
+pub mod Escaped
 pub mod Counts
 pub mod OneRun
 pub mod Machine
@@ -21,3 +21,6 @@ pub mod JoinedLemmas
 pub mod ListedLemmas
 pub mod SameNamesLemmas
 pub mod Texts
+pub mod LesserLemmas
+pub mod SameListLemmas
+pub mod NumberLemmas

@@ -12,7 +12,7 @@ grown_by : (b : Bool) (ks : List ℕ) (n : ℕ) → (more : List ℕ) × (cond b
 grown_by true ks n = ([], sym (append-nil ks))
 grown_by false ks n = (n ∷ [], refl)
 
-grown : (ns ks : List ℕ) → (more : List ℕ) × (with_numbers ks ns ≡ ks ++ more)
+pub grown : (ns ks : List ℕ) → (more : List ℕ) × (with_numbers ks ns ≡ ks ++ more)
 unfolding with_numbers
 grown [] ks = ([], sym (append-nil ks))
 grown (n ∷ ns) ks =

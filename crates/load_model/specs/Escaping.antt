@@ -1,5 +1,5 @@
 -- How a name or a path is written in a line of text.
-use Rattle.std.specs.Prelude.{ℕ, List, [], ◌∷◌, Bool, cond, not, ◌==◌, ◌&&◌, ◌+◌, ◌/◌, ◌%◌, ◌≢◌, ◌≤◌, nat_le, nat_lt, All}
+use Rattle.std.specs.Prelude.{ℕ, List, [], ◌∷◌, Bool, cond, not, ◌==◌, ◌&&◌, ◌+◌, ◌/◌, ◌%◌, ◌≢◌, ◌≤◌, Option, Some, None, nat_le, nat_lt, All}
 use Rattle.std.specs.List.{flat_map}
 use Rattle.std.specs.Str.{bytes_eq}
 
@@ -22,6 +22,11 @@ abbrev pub escaped : List ℕ → List ℕ
 escaped bytes =
     cond (bytes_eq bytes []) (0x5c ∷ 101 ∷ [])
     (cond (bytes_eq bytes (45 ∷ [])) (0x5c ∷ 120 ∷ 50 ∷ 100 ∷ []) (flat_map escaped_byte bytes))
+
+-- a version, or `-` for none
+abbrev pub version_text : Option (List ℕ) → List ℕ
+version_text None = 45 ∷ []
+version_text (Some version) = escaped version
 
 -- a text that can stand as a field of a line: printed characters alone, and not the `-` that stands
 -- for nothing

@@ -2,7 +2,7 @@
 -- is a name asked for by an object. The start phase asks for all needs of the objects in load
 -- order; then each opened name is a phase: the name, asked for by the program, followed by the
 -- needs of the objects that this phase brought. X is why a request has no target.
-use Rattle.std.specs.Prelude.{ℕ, zero, suc, List, [], ◌∷◌, ◌++◌, Bool, true, false, cond, ◌≡◌, ◌<◌, Option, Some, None, Result, Ok, Err, length, take, drop, map, max, slice_get, ◌==◌, ◌&&◌, ◌||◌, nat_lt, ◌⊎◌}
+use Rattle.std.specs.Prelude.{ℕ, zero, suc, List, [], ◌∷◌, ◌++◌, Bool, true, false, cond, ◌≡◌, ◌<◌, Option, Some, None, Result, Ok, Err, length, take, drop, map, max, min, slice_get, ◌==◌, ◌&&◌, ◌||◌, nat_lt, ◌⊎◌}
 use Rattle.std.specs.List.{list_any}
 use Rattle.std.specs.Str.{bytes_eq}
 use Rattle.load_model.specs.declared.faces.Face.{Face}
@@ -203,6 +203,12 @@ with_numbers ks (n ∷ ns) = with_numbers (cond (list_any (λ k. k == n) ks) ks 
 unfoldable pub up_to : ℕ → List ℕ
 up_to zero = []
 up_to (suc n) = up_to n ++ n ∷ []
+
+-- the lesser of two numbers, where there are any
+abbrev pub lesser_of : Option ℕ → Option ℕ → Option ℕ
+lesser_of None other = other
+lesser_of (Some i) None = Some i
+lesser_of (Some i) (Some j) = Some (min i j)
 
 -- a name is known for an object: an earlier request of it went there, or it is the object's soname
 abbrev pub is_named : Option (List ℕ) → List ℕ → Bool

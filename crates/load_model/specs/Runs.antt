@@ -61,6 +61,10 @@ unfoldable pub target_in : List Asked → List ℕ → ℕ
 target_in [] n = 0
 target_in (a ∷ log) n = cond (bytes_eq a.request.name n) a.target (target_in log n)
 
+abbrev pub face_of_object : Option Object → Option Face
+face_of_object None = None
+face_of_object (Some o) = Some o.face
+
 -- The needs of an object, and where they went.
 abbrev pub needs_at : Option Object → List (List ℕ)
 needs_at None = []

@@ -3,7 +3,7 @@ use Rattle.std.proofs.Common.{◌≡◌, ◌∙◌, sym, ap, refl, ℕ, zero, su
 use Rattle.std.specs.List.{All, flat_map}
 use Rattle.std.specs.Option.{option_and_then, unwrap_or}
 use Rattle.std.proofs.lemmas.Bool.{cases_lt}
-use Rattle.std.proofs.lemmas.List.{length-append, length-map, take_all}
+use Rattle.std.proofs.lemmas.List.{length-map, take_all}
 use Rattle.std.proofs.lemmas.Option.{get_or_from_slice_get, slice_get_within, slice_get-get_or}
 use Rattle.answers.specs.Told.{WhereTold}
 use Rattle.answers.specs.Faults.{Rose}
@@ -21,6 +21,7 @@ use Rattle.load_model.specs.declared.runs.Run.{Run}
 use Rattle.load_model.specs.declared.setting.Setting.{Setting}
 use Rattle.load_model.proofs.AskedNeeds.{get_map}
 use Rattle.load_model.proofs.LoadLists.{is_ended, is_stop, name_has_target}
+use Rattle.load_model.proofs.NumberLemmas.{length-up_to}
 use Rattle.load_model.proofs.Places.{slice_get_front}
 use Rattle.load_order.specs.Ending.{AreNoted, IsLoadEnd, StaysInFront, IsPhaseEnd, IsOpening, IsOpeningAll, IsPhaseMore, IsPhaseReady, WentFor}
 use Rattle.load_requests.specs.Loading.{IsRead, IsRefusedBy, refusal_of}
@@ -38,18 +39,13 @@ ext_get [] (y ∷ ys) size h = absurd (omega arith)
 ext_get (x ∷ xs) [] size h = absurd (omega arith)
 ext_get (x ∷ xs) (y ∷ ys) size h = ap (λ z. z ∷ xs) (h 0 x y refl refl) ∙ ap (λ zs. y ∷ zs) (ext_get xs ys (omega arith) (λ k a b g f. h (suc k) a b g f))
 
-length_up : (n : ℕ) → length (up_to n) ≡ n
-unfolding up_to
-length_up zero = refl
-length_up (suc n) = let rest = length_up n in let size = length-append (up_to n) (n ∷ []) in omega arith
-
 up_at : (n k x : ℕ) → slice_get (up_to n) k ≡ Some x → x ≡ k
 unfolding up_to
 up_at zero k x h = cc
 up_at (suc n) k x h =
     elim (pushed (up_to n) n k x h) [
       | inl e ↦ up_at n k x e
-      | inr e ↦ let size = length_up n in let same = e.1 in let at = e.0 in omega arith
+      | inr e ↦ let size = length-up_to n in let same = e.1 in let at = e.0 in omega arith
     ]
 
 pub all_get : {X : Type 0} (P : X → Type 0) (xs : List X) (k : ℕ) (x : X) → All P xs → slice_get xs k ≡ Some x → P x
@@ -225,7 +221,7 @@ module _ (faces : List Face) (s : Loading) (opens : List (List ℕ)) (numbers : 
 
     targets_is : s.targets ≡ map (need_targets loaded) (up_to (length loaded.objs))
     targets_is =
-        ext_get s.targets (map (need_targets loaded) (up_to (length loaded.objs))) (all ∙ sym size_is ∙ sym (length_up (length loaded.objs)) ∙ sym (length-map (up_to (length loaded.objs)) (need_targets loaded)))
+        ext_get s.targets (map (need_targets loaded) (up_to (length loaded.objs))) (all ∙ sym size_is ∙ sym (length-up_to (length loaded.objs)) ∙ sym (length-map (up_to (length loaded.objs)) (need_targets loaded)))
         (λ k ts y h g.
         let a = size_is in
         let n = get_map (need_targets loaded) (up_to (length loaded.objs)) k y g in

@@ -1,5 +1,5 @@
 -- Steps of a local list, and what it is over the targets of a load list.
-use Rattle.std.proofs.Common.{◌≡◌, ◌∙◌, sym, ap, refl, ℕ, zero, suc, ◌+◌, ◌≤◌, ◌<◌, List, [], ◌∷◌, ◌++◌, Bool, true, false, cond, Some, length, take, drop, slice_get, get_or, arith, subst, ◌⊎◌, inl, inr, append_assoc, ◌==◌, drop-cons}
+use Rattle.std.proofs.Common.{◌≡◌, ◌∙◌, sym, ap, refl, ℕ, zero, suc, ◌+◌, ◌≤◌, ◌<◌, List, [], ◌∷◌, ◌++◌, Bool, true, false, cond, Some, length, take, drop, slice_get, get_or, arith, subst, ◌⊎◌, inl, inr, ◌==◌, drop-cons}
 use Rattle.std.specs.List.{All, flat_map, list_any}
 use Rattle.std.specs.Option.{unwrap_or}
 use Rattle.std.proofs.Math.Seq.{take-suc}
@@ -10,6 +10,7 @@ use Rattle.std.proofs.lemmas.Grind.{flat_map-append}
 use Rattle.std.proofs.lemmas.Option.{slice_get-get_or, get_or_from_slice_get, slice_get_within}
 use Rattle.load_model.specs.LoadList.{with_numbers}
 use Rattle.load_model.specs.Runs.{AreBelow}
+use Rattle.load_model.proofs.Locals.{grown}
 use Rattle.load_model.proofs.Order.{with_numbers-append}
 use Rattle.load_model.proofs.Places.{slice_get-take, slice_get_front}
 use Rattle.load_order.specs.Reaching.{AreReaches, IsReach, reached_in, targets_at}
@@ -33,19 +34,6 @@ added_old ks ns new i below there is =
     ∙ ap (λ xs. with_numbers xs rest) (is ∙ ap (λ b. cond b ks (ks ++ get_or ns i 0 ∷ [])) (sym there))
     ∙ ap (with_numbers ks) (sym (drop-cons ns i 0 below))
 
--- what was there stays in front
-more_by : (b : Bool) (ks : List ℕ) (n : ℕ) → (more : List ℕ) × (cond b ks (ks ++ n ∷ []) ≡ ks ++ more)
-more_by true ks n = ([], sym (append-nil ks))
-more_by false ks n = (n ∷ [], refl)
-
-pub more_of : (ns ks : List ℕ) → (more : List ℕ) × (with_numbers ks ns ≡ ks ++ more)
-unfolding with_numbers
-more_of [] ks = ([], sym (append-nil ks))
-more_of (n ∷ ns) ks =
-    let one = more_by (list_any (λ k. k == n) ks) ks n in
-    let rest = more_of ns (cond (list_any (λ k. k == n) ks) ks (ks ++ n ∷ [])) in
-    (one.0 ++ rest.0, rest.1 ∙ ap (λ xs. xs ++ rest.0) one.1 ∙ append_assoc ks one.0 rest.0)
-
 -- what is added is below a bound where all numbers are
 one_below : (bound n k d : ℕ) → n < bound → k < 1 → get_or (n ∷ []) k d < bound
 one_below bound n zero d h b = h
@@ -68,7 +56,7 @@ module _ (targets : List (List ℕ)) (root : ℕ) where
 
   pub next_reached : (at : ℕ) (list new : List ℕ) → at < length list → list ≡ reached_in targets root (take at list) → new ≡ with_numbers list (targets_at targets (get_or list at 0)) → (new ≡ reached_in targets root (take (at + 1) new)) × (at + 1 ≤ length new) × ((i : ℕ) → i ≤ at → take i new ≡ take i list)
   next_reached at list new below is step =
-      let w = more_of (targets_at targets (get_or list at 0)) list in
+      let w = grown (targets_at targets (get_or list at 0)) list in
       let grown : new ≡ list ++ w.0 = step ∙ w.1 in
       let size : length new ≡ length list + length w.0 = ap length grown ∙ length-append list w.0 in
       let up : at + 1 ≡ suc at = omega arith in

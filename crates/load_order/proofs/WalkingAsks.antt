@@ -5,6 +5,7 @@ use Rattle.std.specs.Result.{is_err}
 use Rattle.std.proofs.lemmas.List.{append-nil, map-append, take-append-drop, take_all, take_more, drop_more, length_push}
 use Rattle.std.proofs.lemmas.List.Elements.{All-push, All-weaker}
 use Rattle.answers.specs.Faults.{Rose}
+use Rattle.load_model.proofs.Machine.{next_ok}
 use Rattle.load_model.specs.Faces.{face_or_flaw}
 use Rattle.load_model.specs.LoadList.{Asked, Brought, Found, Known, Loaded, Object, Request, ask, ask_all, next, with_found}
 use Rattle.load_model.specs.Loads.{goes_to}
@@ -77,15 +78,11 @@ refused_by P Q (Some refusal) f h = f refusal h
 
 -- ---- the recursion
 
-next_is : {A B X : Type 0} (r : Result A X) (f : A → Result B X) (y : B) → next r f ≡ Ok y → (x : A) × (r ≡ Ok x) × (f x ≡ Ok y)
-next_is (Ok x) f y h = (x, refl, h)
-next_is (Err e) f y h = cc
-
 module _ {X : Type 0} (answer : List Object → List Asked → Request → Result Found X) where
   pub ask_all_on : (rs qs : List Request) (s m : Loaded) → ask_all answer s rs ≡ Ok m → ask_all answer s (rs ++ qs) ≡ ask_all answer m qs
   ask_all_on [] qs s m h = let same : s ≡ m = cc in ap (λ t. ask_all answer t qs) same
   ask_all_on (r ∷ rs) qs s m h =
-      let two = next_is (ask answer s r) (λ t. ask_all answer t rs) m h in
+      let two = next_ok (ask answer s r) (λ t. ask_all answer t rs) m h in
       ap (λ q. next q (λ t. ask_all answer t (rs ++ qs))) two.1 ∙ ask_all_on rs qs two.0 m two.2
 
   pub ask_one : (m : Loaded) (r : Request) (found : Found) → answer m.objs m.log r ≡ Ok found → ask_all answer m (r ∷ []) ≡ Ok (with_found m r found)

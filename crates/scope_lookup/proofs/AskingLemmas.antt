@@ -12,7 +12,7 @@ use Rattle.std.proofs.lemmas.Option.{get_or_from_slice_get, slice_get-map, slice
 use Rattle.std.proofs.lemmas.Slice.Zip.{get_or-zip, length-zip}
 use Rattle.answers.specs.Answers.{Names}
 use Rattle.answers.specs.First.{first_some}
-use Rattle.load_model.specs.LoadList.{is_named, up_to}
+use Rattle.load_model.specs.LoadList.{is_named, up_to, lesser_of}
 use Rattle.load_model.specs.Runs.{IsRunOver, face_at}
 use Rattle.load_model.specs.VersionCheck.{FileUnloaded, Unmet, UnmetAsk, VersionLacking, asked_by, asks_in, defs_in, first_unmet, has_defined, is_known_by, loaded_by, needs_in, needs_to, phase_at, soname_in, VersionsMet, unmet, unmet_at, unmet_by, unmet_of, version_file_of}
 use Rattle.load_model.specs.declared.asks.Ask.{Ask}
@@ -20,55 +20,28 @@ use Rattle.load_model.specs.declared.faces.Face.{Face}
 use Rattle.load_model.specs.declared.runs.Obj.{Obj}
 use Rattle.load_model.specs.declared.runs.Run.{Run}
 use Rattle.scope_lookup.specs.Asking.{asked_names, names_opened_by, unmet_ask}
-use Rattle.scope_lookup.specs.Firsts.{earlier, is_request_to, requests_in}
+use Rattle.scope_lookup.specs.Firsts.{is_request_to, requests_in}
 use Rattle.scope_lookup.specs.declared.stops.VersionStop.{VersionStop}
 use Rattle.scope_lookup.specs.declared.stops.VersionStop.TheVariants.{VersionFileUnloaded, UnsatisfiedVersion}
-use Rattle.scope_lookup.proofs.EarlierLemmas.{earlier_either, find-filter, find_below, find_first, find_none, find_same}
+use Rattle.load_model.proofs.NumberLemmas.{length-up_to, number_at}
+use Rattle.load_model.proofs.LesserLemmas.{lesser_either, find-filter, find_below, find_first, find_none, find_same}
 
--- numbers up to a bound
 length_more : {X : Type 0} (xs : List X) (x : X) → length (xs ++ x ∷ []) ≡ suc (length xs)
 length_more [] x = refl
 length_more (y ∷ xs) x = ap suc (length_more xs x)
-
-pub length-up_to : (n : ℕ) → length (up_to n) ≡ n
-unfolding up_to
-length-up_to zero = refl
-length-up_to (suc n) = length_more (up_to n) n ∙ ap suc (length-up_to n)
-
-at_last : {X : Type 0} (xs : List X) (x : X) (k : ℕ) → k ≡ length xs → slice_get (xs ++ x ∷ []) k ≡ Some x
-at_last [] x zero h = refl
-at_last [] x (suc k) h = absurd (omega arith)
-at_last (y ∷ xs) x zero h = absurd (omega arith)
-at_last (y ∷ xs) x (suc k) h = at_last xs x k (omega arith)
-
-at_front : {X : Type 0} (xs ys : List X) (k : ℕ) (x : X) → slice_get xs k ≡ Some x → slice_get (xs ++ ys) k ≡ Some x
-at_front [] ys k x h = cc
-at_front (y ∷ xs) ys zero x h = h
-at_front (y ∷ xs) ys (suc k) x h = at_front xs ys k x h
-
-at_number : (n k : ℕ) → k < n → slice_get (up_to n) k ≡ Some k
-unfolding up_to
-at_number zero k less = absurd (omega arith)
-at_number (suc n) k less =
-    elim (cases_lt k n) [
-      | inl a ↦ at_front (up_to n) (n ∷ []) k k (at_number n k a)
-      | inr a ↦
-          let same : k ≡ n = omega arith in
-          at_last (up_to n) n k (same ∙ sym (length-up_to n)) ∙ ap Some (sym same)
-    ]
 
 -- objects that are loaded at the end of a phase
 distribute : (t p q : Bool) → ((t && p) || (t && q)) ≡ (t && (p || q))
 distribute true p q = refl
 distribute false p q = refl
 
-pub loaded_either : (run : Run) (phase : ℕ) (p q : ℕ → Bool) → earlier (find p (loaded_by run phase)) (find q (loaded_by run phase)) ≡ find (λ j. p j || q j) (loaded_by run phase)
+pub loaded_either : (run : Run) (phase : ℕ) (p q : ℕ → Bool) → lesser_of (find p (loaded_by run phase)) (find q (loaded_by run phase)) ≡ find (λ j. p j || q j) (loaded_by run phase)
 loaded_either run phase p q =
     let t : ℕ → Bool = λ j. nat_le (phase_at run j) phase in
     let n : ℕ = length run.objs in
-    ap (λ o. earlier o (find q (loaded_by run phase))) (find-filter t p (up_to n))
-    ∙ ap (earlier (find (λ j. t j && p j) (up_to n))) (find-filter t q (up_to n))
-    ∙ earlier_either (λ j. t j && p j) (λ j. t j && q j) n
+    ap (λ o. lesser_of o (find q (loaded_by run phase))) (find-filter t p (up_to n))
+    ∙ ap (lesser_of (find (λ j. t j && p j) (up_to n))) (find-filter t q (up_to n))
+    ∙ lesser_either (λ j. t j && p j) (λ j. t j && q j) n
     ∙ find_same (λ j. (t j && p j) || (t j && q j)) (λ j. t j && (p j || q j)) (up_to n) (λ j. distribute (t j) (p j) (q j))
     ∙ sym (find-filter t (λ j. p j || q j) (up_to n))
 
@@ -99,16 +72,16 @@ one_request t b true target n within h =
 one_request t b false target n within h =
     find_none (λ j. t j && (b && (target == j))) n (λ j less. no_other t b target j h)
 
-earlier_none : (o : Option ℕ) → earlier o None ≡ o
-earlier_none None = refl
-earlier_none (Some i) = refl
+lesser_none : (o : Option ℕ) → lesser_of o None ≡ o
+lesser_none None = refl
+lesser_none (Some i) = refl
 
 -- one request more of some names with their targets
 module _ (run : Run) (phase : ℕ) (file : List ℕ) (names : List (List ℕ)) (targets : List ℕ) where
   abbrev pub target_so_far : ℕ → Option ℕ
   target_so_far i = find (λ j. list_any (is_request_to file j) (take i (zip names targets))) (loaded_by run phase)
 
-  target_more : (i target : ℕ) (name : List ℕ) (c : Bool) → i < length names → i < length targets → name ≡ get_or names i [] → target ≡ get_or targets i 0 → target < length run.objs → (bytes_eq name file && nat_le (phase_at run target) phase) ≡ c → target_so_far (i + 1) ≡ earlier (target_so_far i) (cond c (Some target) None)
+  target_more : (i target : ℕ) (name : List ℕ) (c : Bool) → i < length names → i < length targets → name ≡ get_or names i [] → target ≡ get_or targets i 0 → target < length run.objs → (bytes_eq name file && nat_le (phase_at run target) phase) ≡ c → target_so_far (i + 1) ≡ lesser_of (target_so_far i) (cond c (Some target) None)
   target_more i target name c in_names in_targets name_is target_is within h =
       let t : ℕ → Bool = λ j. nat_le (phase_at run j) phase in
       let pairs : List (List ℕ × ℕ) = zip names targets in
@@ -120,15 +93,15 @@ module _ (run : Run) (phase : ℕ) (file : List ℕ) (names : List (List ℕ)) (
       find_same (λ j. list_any (is_request_to file j) (take (i + 1) pairs)) (λ j. list_any (is_request_to file j) (take i pairs) || (bytes_eq name file && (target == j))) (loaded_by run phase)
       (λ j. list_any_more (is_request_to file j) pairs i ([], 0) less ∙ ap (λ x. list_any (is_request_to file j) (take i pairs) || is_request_to file j x) pair)
       ∙ sym (loaded_either run phase (λ j. list_any (is_request_to file j) (take i pairs)) (λ j. bytes_eq name file && (target == j)))
-      ∙ ap (earlier (target_so_far i)) one
+      ∙ ap (lesser_of (target_so_far i)) one
 
-  pub target_hit : (i target : ℕ) (name : List ℕ) → i < length names → i < length targets → name ≡ get_or names i [] → target ≡ get_or targets i 0 → target < length run.objs → bytes_eq name file ≡ true → nat_le (phase_at run target) phase ≡ true → (first : Option ℕ) → first ≡ target_so_far i → earlier first (Some target) ≡ target_so_far (i + 1)
+  pub target_hit : (i target : ℕ) (name : List ℕ) → i < length names → i < length targets → name ≡ get_or names i [] → target ≡ get_or targets i 0 → target < length run.objs → bytes_eq name file ≡ true → nat_le (phase_at run target) phase ≡ true → (first : Option ℕ) → first ≡ target_so_far i → lesser_of first (Some target) ≡ target_so_far (i + 1)
   target_hit i target name a b c d e f g first h =
-      ap (λ o. earlier o (Some target)) h ∙ sym (target_more i target name true a b c d e (and_from (bytes_eq name file) (nat_le (phase_at run target) phase) f g))
+      ap (λ o. lesser_of o (Some target)) h ∙ sym (target_more i target name true a b c d e (and_from (bytes_eq name file) (nat_le (phase_at run target) phase) f g))
 
   pub target_miss : (i target : ℕ) (name : List ℕ) → i < length names → i < length targets → name ≡ get_or names i [] → target ≡ get_or targets i 0 → target < length run.objs → (bytes_eq name file && nat_le (phase_at run target) phase) ≡ false → (first : Option ℕ) → first ≡ target_so_far i → first ≡ target_so_far (i + 1)
   target_miss i target name a b c d e f first h =
-      h ∙ sym (earlier_none (target_so_far i)) ∙ sym (target_more i target name false a b c d e f)
+      h ∙ sym (lesser_none (target_so_far i)) ∙ sym (target_more i target name false a b c d e f)
 
 -- the requests of one object more
 module _ (asked : List (List (List ℕ))) (run : Run) (phase : ℕ) (file : List ℕ) where
@@ -150,10 +123,10 @@ module _ (asked : List (List (List ℕ))) (run : Run) (phase : ℕ) (file : List
       ∙ ap (λ xs. flat_map (requests_in asked run) (filter t (up_to n)) ++ flat_map (requests_in asked run) xs) (ap (λ c. cond c (n ∷ []) []) h)
       ∙ ap (λ xs. flat_map (requests_in asked run) (filter t (up_to n)) ++ xs) (one_kept n b)
 
-  pub needed_more : (n : ℕ) (first : Option ℕ) → nat_le (phase_at run n) phase ≡ true → first ≡ needed_so_far n → earlier first (find (λ j. list_any (is_request_to file j) (requests_in asked run n)) (loaded_by run phase)) ≡ needed_so_far (n + 1)
+  pub needed_more : (n : ℕ) (first : Option ℕ) → nat_le (phase_at run n) phase ≡ true → first ≡ needed_so_far n → lesser_of first (find (λ j. list_any (is_request_to file j) (requests_in asked run n)) (loaded_by run phase)) ≡ needed_so_far (n + 1)
   needed_more n first h g =
       let before : List (List ℕ × ℕ) = flat_map (requests_in asked run) (filter (λ k. nat_le (phase_at run k) phase) (up_to n)) in
-      ap (λ o. earlier o (find (λ j. list_any (is_request_to file j) (requests_in asked run n)) (loaded_by run phase))) g
+      ap (λ o. lesser_of o (find (λ j. list_any (is_request_to file j) (requests_in asked run n)) (loaded_by run phase))) g
       ∙ loaded_either run phase (λ j. list_any (is_request_to file j) before) (λ j. list_any (is_request_to file j) (requests_in asked run n))
       ∙ find_same (λ j. list_any (is_request_to file j) before || list_any (is_request_to file j) (requests_in asked run n)) (λ j. list_any (is_request_to file j) (flat_map (requests_in asked run) (filter (λ k. nat_le (phase_at run k) phase) (up_to (n + 1))))) (loaded_by run phase)
       (λ j. sym (list_any-append (is_request_to file j) before (requests_in asked run n)) ∙ ap (list_any (is_request_to file j)) (sym (kept_requests n true h)))
@@ -200,7 +173,7 @@ module _ (faces : List Face) (run : Run) (over : IsRunOver faces run) where
   unfolding asked_names
   names_at asked is j less =
       ap (λ xs. slice_get xs j) is ∙ slice_get-map (λ k. needs_in (face_at faces run k) ++ names_opened_by run k) (up_to (length run.objs)) j
-      ∙ ap (option_map (λ k. needs_in (face_at faces run k) ++ names_opened_by run k)) (at_number (length run.objs) j less)
+      ∙ ap (option_map (λ k. needs_in (face_at faces run k) ++ names_opened_by run k)) (number_at (length run.objs) j less)
 
   pub asked_count : (asked : List (List (List ℕ))) → asked ≡ asked_names faces run → length asked ≡ length run.objs
   unfolding asked_names
@@ -231,7 +204,7 @@ module _ (faces : List Face) (run : Run) (over : IsRunOver faces run) where
       → a ≡ find (λ k. is_named (soname_in (face_at faces run k)) file) (loaded_by run phase)
       → b ≡ find (λ k. list_any (is_request_to file k) (flat_map (requests_in asked run) (loaded_by run phase))) (loaded_by run phase)
       → c ≡ find (λ k. list_any (is_request_to file k) (zip (take phase run.opens) (take phase run.roots))) (loaded_by run phase)
-      → earlier a (earlier b c) ≡ version_file_of faces run j file
+      → lesser_of a (lesser_of b c) ≡ version_file_of faces run j file
   unfolding version_file_of
   file_is asked j phase file a b c is at h g e =
       let named : ℕ → Bool = λ k. is_named (soname_in (face_at faces run k)) file in
@@ -240,9 +213,9 @@ module _ (faces : List Face) (run : Run) (over : IsRunOver faces run) where
       let all : needed ++ opened ≡ asked_by faces run phase =
       ap (λ xs. xs ++ opened) (flat_same (requests_in asked run) (needs_to faces run) (loaded_by run phase) (requests_same asked is))
       ∙ ap (λ xs. flat_map (needs_to faces run) (loaded_by run phase) ++ xs) (sym (zip_take phase run.opens run.roots)) in
-      ap (λ o. earlier o (earlier b c)) h ∙ ap (λ o. earlier (find named (loaded_by run phase)) (earlier o c)) g
-      ∙ ap (λ o. earlier (find named (loaded_by run phase)) (earlier (find (λ k. list_any (is_request_to file k) needed) (loaded_by run phase)) o)) e
-      ∙ ap (earlier (find named (loaded_by run phase))) (loaded_either run phase (λ k. list_any (is_request_to file k) needed) (λ k. list_any (is_request_to file k) opened))
+      ap (λ o. lesser_of o (lesser_of b c)) h ∙ ap (λ o. lesser_of (find named (loaded_by run phase)) (lesser_of o c)) g
+      ∙ ap (λ o. lesser_of (find named (loaded_by run phase)) (lesser_of (find (λ k. list_any (is_request_to file k) needed) (loaded_by run phase)) o)) e
+      ∙ ap (lesser_of (find named (loaded_by run phase))) (loaded_either run phase (λ k. list_any (is_request_to file k) needed) (λ k. list_any (is_request_to file k) opened))
       ∙ loaded_either run phase named (λ k. list_any (is_request_to file k) needed || list_any (is_request_to file k) opened)
       ∙ find_same (λ k. named k || (list_any (is_request_to file k) needed || list_any (is_request_to file k) opened)) (is_known_by faces run phase file) (loaded_by run phase)
       (λ k. ap (λ x. named k || x) (sym (list_any-append (is_request_to file k) needed opened) ∙ ap (list_any (is_request_to file k)) all))

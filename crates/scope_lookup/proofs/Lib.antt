@@ -1,4 +1,3 @@
-pub mod EarlierLemmas
 pub mod ScopeLemmas
 pub mod KeepingLemmas
 pub mod AskingLemmas

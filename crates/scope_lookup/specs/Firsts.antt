@@ -1,14 +1,8 @@
--- The first of several objects.
-use Rattle.std.specs.Prelude.{ℕ, List, [], Bool, ◌==◌, ◌&&◌, Option, Some, None, min, slice_get, zip}
+-- Requests by their names and the objects that they went to.
+use Rattle.std.specs.Prelude.{ℕ, List, [], Bool, ◌==◌, ◌&&◌, slice_get, zip}
 use Rattle.std.specs.Option.{unwrap_or}
 use Rattle.std.specs.Str.{bytes_eq}
 use Rattle.load_model.specs.declared.runs.Run.{Run}
-
--- The lesser of two numbers, where there are any.
-abbrev pub earlier : Option ℕ → Option ℕ → Option ℕ
-earlier None other = other
-earlier (Some i) None = Some i
-earlier (Some i) (Some j) = Some (min i j)
 
 -- A request, with its target, is of this name and went to this object.
 abbrev pub is_request_to : List ℕ → ℕ → (List ℕ × ℕ) → Bool

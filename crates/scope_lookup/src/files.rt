@@ -5,11 +5,11 @@
 
 ghost use Rattle.std.specs.Prelude.{◌≡◌, ◌<◌, ◌^◌, All, IfSome, length, nat_le};
 ghost use Rattle.std.specs.List.{find, flat_map, list_any, zip};
-ghost use Rattle.load_model.specs.LoadList.{is_named};
+ghost use Rattle.load_model.specs.LoadList.{is_named, lesser_of};
 ghost use Rattle.load_model.specs.Runs.{AreBelow, IsRunOver, face_at};
 ghost use Rattle.load_model.specs.VersionCheck.{loaded_by, phase_at, soname_in, version_file_of};
 ghost use Rattle.scope_lookup.specs.Asking.{asked_names};
-ghost use Rattle.scope_lookup.specs.Firsts.{earlier, is_request_to, requests_in};
+ghost use Rattle.scope_lookup.specs.Firsts.{is_request_to, requests_in};
 
 use load_model::{Face, List, Name, Run};
 
@@ -35,9 +35,9 @@ pub fn version_file(
     let roots = &run.roots.as_slice()[..phase as usize];
     let needed = first_needed(run, asked, phase, file);
     let opened = first_target(run, phase, file, opens, roots);
-    earlier(
+    lesser_of(
         first_with_soname(faces, run, phase, file),
-        earlier(needed, opened),
+        lesser_of(needed, opened),
     )
 }
 
@@ -70,7 +70,7 @@ fn first_needed(run: &Run, asked: &List<List<Name>>, phase: u32, file: &Name) ->
         if is_loaded(run, number, phase) {
             let names = asked.as_slice()[number as usize].as_slice();
             let targets = run.targets.as_slice()[number as usize].as_slice();
-            first = earlier(first, first_target(run, phase, file, names, targets));
+            first = lesser_of(first, first_target(run, phase, file, names, targets));
         }
     }
     first
@@ -86,15 +86,15 @@ fn first_target(run: &Run, phase: u32, file: &Name, names: &[Name], targets: &[u
     let mut first = None;
     for (name, target) in names.iter().zip(targets) {
         if name.as_bytes() == file.as_bytes() && is_loaded(run, *target, phase) {
-            first = earlier(first, Some(*target));
+            first = lesser_of(first, Some(*target));
         }
     }
     first
 }
 
 /// The lesser of two numbers, where there are any.
-fn earlier(one: Option<u32>, other: Option<u32>) -> Option<u32>
-    ensures { result ≡ earlier one other }
+fn lesser_of(one: Option<u32>, other: Option<u32>) -> Option<u32>
+    ensures { result ≡ lesser_of one other }
 {
     match (one, other) {
         (Some(number), Some(second)) => Some(number.min(second)),

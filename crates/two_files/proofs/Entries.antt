@@ -4,12 +4,12 @@ use Rattle.std.specs.Prelude.{slice_index}
 use Rattle.std.specs.List.{filter, find}
 use Rattle.std.specs.Option.{option_map}
 use Rattle.std.proofs.lemmas.Bool.Decides.{nat_tests}
-use Rattle.byte_view.specs.Dynamic.{value_of}
+use Rattle.byte_view.specs.Dynamic.{value_of, tagged}
 use Rattle.byte_view.specs.DynamicFlaws.{has_tag}
 use Rattle.byte_view.specs.declared.constants.TheConstants.{DT_NEEDED, DT_SONAME, DT_RPATH, DT_RUNPATH, DT_STRTAB, DT_STRSZ}
 use Rattle.byte_view.specs.declared.dynamic.Entry.{Entry}
 use Rattle.two_files.specs.Alike.{is_changed}
-use Rattle.two_files.specs.Entries.{Places, added_path, new_entries, new_value, rewritten, tagged, where_some}
+use Rattle.two_files.specs.Entries.{Places, added_path, new_entries, new_value, rewritten, where_some}
 
 -- a tag is there exactly where it has a value
 pub tag_there : (tag : ℕ) (xs : List Entry) → has_tag tag xs ≡ is_some (value_of tag xs)

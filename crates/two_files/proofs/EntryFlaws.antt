@@ -7,13 +7,13 @@ use Rattle.std.proofs.lemmas.List.Folds.{list_any-append}
 use Rattle.answers.specs.First.{some_where}
 use Rattle.byte_view.specs.declared.flaws.TheConstants.{MISSING_TAG, REPEATED, TAG_REFUSED}
 use Rattle.byte_view.specs.Checks.{flaw}
-use Rattle.byte_view.specs.Dynamic.{is_end, value_of}
+use Rattle.byte_view.specs.Dynamic.{is_end, value_of, tagged}
 use Rattle.byte_view.specs.DynamicFlaws.{entry_flaw, has_tag, is_refused, is_repeated, is_single, missing_tag, missing_beside, missing_flaw}
 use Rattle.byte_view.specs.declared.constants.TheConstants.{DT_NEEDED, DT_RUNPATH, DT_STRTAB, DT_STRSZ, DT_SYMTAB, DT_SYMENT, DT_VERDEF, DT_VERDEFNUM, DT_VERNEED, DT_VERNEEDNUM, DT_FLAGS_1}
 use Rattle.byte_view.specs.declared.dynamic.Entry.{Entry}
 use Rattle.byte_view.specs.declared.flaws.Flaw.{Flaw}
 use Rattle.byte_view.proofs.Loads.{none_first}
-use Rattle.two_files.specs.Entries.{Places, added_path, new_entries, new_value, rewritten, tagged, where_some}
+use Rattle.two_files.specs.Entries.{Places, added_path, new_entries, new_value, rewritten, where_some}
 use Rattle.two_files.proofs.Entries.{new_kept, new_strings_at, new_strings_size, tag_there}
 
 -- a tag that stands once is among the first only where it is among the second

@@ -5,12 +5,12 @@ use Rattle.std.specs.List.{All, filter, find, list_any}
 use Rattle.std.proofs.lemmas.Bool.Decides.{nat_tests}
 use Rattle.std.proofs.lemmas.List.Elements.{All-head, All-tail}
 use Rattle.std.proofs.lemmas.List.Folds.{list_any-append}
-use Rattle.byte_view.specs.Dynamic.{dynamic_entries, strings_size}
+use Rattle.byte_view.specs.Dynamic.{dynamic_entries, strings_size, tagged}
 use Rattle.byte_view.specs.DynamicFlaws.{bad_name, has_tag, is_name}
 use Rattle.byte_view.specs.declared.constants.TheConstants.{DT_NEEDED, DT_SONAME, DT_RPATH, DT_RUNPATH, DT_STRTAB, DT_STRSZ}
 use Rattle.byte_view.specs.declared.dynamic.Entry.{Entry}
 use Rattle.load_model.specs.Faces.{bad_text_of, is_no_text}
-use Rattle.two_files.specs.Entries.{Places, added_path, new_entries, new_value, rewritten, tagged, where_some}
+use Rattle.two_files.specs.Entries.{Places, added_path, new_entries, new_value, rewritten, where_some}
 
 -- entries that a test does not pass, by what gives their values
 pub record AreGood (bad : Entry → Bool) (w : Places) : Type 0 where

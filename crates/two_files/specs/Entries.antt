@@ -1,5 +1,6 @@
 -- The entries of the new dynamic table
 use Rattle.std.specs.Prelude.{ℕ, ◌==◌, ◌∷◌, ◌++◌, cond, List, [], Option, Some, None, drop, slice_index}
+use Rattle.byte_view.specs.Dynamic.{tagged}
 use Rattle.byte_view.specs.DynamicFlaws.{has_tag}
 use Rattle.byte_view.specs.declared.constants.TheConstants.{DT_NEEDED, DT_SONAME, DT_RPATH, DT_RUNPATH, DT_STRTAB, DT_STRSZ}
 use Rattle.byte_view.specs.declared.dynamic.Entry.{Entry}
@@ -11,9 +12,6 @@ pub record Places : Type 0 where
   pub runpath : Option ℕ
   pub strings_at : ℕ
   pub strings_size : ℕ
-
-abbrev pub tagged : ℕ → ℕ → Entry
-tagged tag value = record { tag = tag; value = value }
 
 -- the entry with a tag, where there is a value for it
 abbrev pub where_some : ℕ → Option ℕ → List Entry

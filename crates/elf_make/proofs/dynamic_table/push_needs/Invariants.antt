@@ -1,7 +1,7 @@
 use Rattle.std.specs.Prelude.{◌≡◌, ◌++◌, drop, map}
 use Rattle.byte_view.specs.declared.constants.TheConstants.{DT_NEEDED}
 use Rattle.elf_shape.specs.Texts.{string_place}
-use Rattle.elf_make.specs.DynamicTable.{tagged}
+use Rattle.byte_view.specs.Dynamic.{tagged}
 use Rattle.elf_make.proofs.dynamic_table.push_needs.Given as goal
 
 abbrev pub invariant-loop-need : goal.invariant-loop-need

@@ -1,6 +1,6 @@
 -- the bytes so far, and those of the rest, are all
 use Rattle.std.proofs.Common.{◌≡◌, ◌++◌, drop}
-use Rattle.elf_rewrite.specs.Words.{entries_bytes}
+use Rattle.byte_view.specs.Dynamic.{entries_bytes}
 use Rattle.elf_rewrite.proofs.words.entries_bytes.Given as goal
 
 abbrev pub invariant-loop-entry : goal.invariant-loop-entry

@@ -2,7 +2,7 @@
 use Rattle.std.proofs.Common.{sym, ◌∙◌, ◌≡◌, [], ◌∷◌, List, ℕ, rules, subst, true}
 use Rattle.std.specs.List.{list_all}
 use Rattle.load_model.specs.Escaping.{AreBytes, escaped, is_plain}
-use Rattle.host_record.proofs.EscapedLemmas.{is_field}
+use Rattle.load_model.proofs.Escaped.{is_field}
 use Rattle.host_record.proofs.UnescapingLemmas.{empty, plain_bytes, plain_escaped}
 use Rattle.host_record.proofs.unescaping.unescape.Goals as goal
 use Rattle.host_record.proofs.unescaping.unescape.Goals.{then-is_empty-via-then-is_empty, then-is_empty-via-else-is_empty+then-eq}

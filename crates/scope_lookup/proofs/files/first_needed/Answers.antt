@@ -1,7 +1,8 @@
 use Rattle.std.proofs.Common.{◌≡◌, ◌∙◌, sym, ap, arith, length, zip, get_or}
 use Rattle.std.specs.List.{find, list_any}
 use Rattle.load_model.specs.VersionCheck.{loaded_by}
-use Rattle.scope_lookup.specs.Firsts.{earlier, is_request_to, requests_in}
+use Rattle.load_model.specs.LoadList.{lesser_of}
+use Rattle.scope_lookup.specs.Firsts.{is_request_to, requests_in}
 use Rattle.scope_lookup.proofs.AskingLemmas.{needed_more, needed_same, needed_so_far, none_needed, requests_at}
 use Rattle.scope_lookup.proofs.files.first_needed.Goals.{then-is_loaded, else-is_loaded}
 use Rattle.scope_lookup.proofs.files.first_needed.Goals as goal
@@ -22,8 +23,8 @@ loop-number-preserved c =
           ∙ requests_at c.args.asked.now c.args.run.now number w.index-as_slice-number.result w.index-as_slice-number-then-is_loaded.result (omega arith) (omega arith)
           (w.index-as_slice-number.is ∙ ap (λ xs. get_or xs number w.index-as_slice-number.result) w.as_slice-then-is_loaded.ensures)
           (w.index-as_slice-number-then-is_loaded.is ∙ ap (λ xs. get_or xs number w.index-as_slice-number-then-is_loaded.result) w.as_slice-then-is_loaded-2.ensures) in
-          w.first-is ∙ w.earlier-first.ensures
-          ∙ ap (earlier c.loop-number.first) (w.first_target.ensures ∙ ap (λ ps. find (λ j. list_any (is_request_to c.args.file.now j) ps) (loaded_by c.args.run.now c.args.phase)) requests)
+          w.first-is ∙ w.lesser_of-first.ensures
+          ∙ ap (lesser_of c.loop-number.first) (w.first_target.ensures ∙ ap (λ ps. find (λ j. list_any (is_request_to c.args.file.now j) ps) (loaded_by c.args.run.now c.args.phase)) requests)
           ∙ needed_more c.args.asked.now c.args.run.now c.args.phase c.args.file.now number c.loop-number.first (sym c.is_loaded.ensures ∙ w.if-is_loaded.true) c.loop-number.invariant
       | else-is_loaded w ↦ w.first-is ∙ needed_same c.args.asked.now c.args.run.now c.args.phase c.args.file.now c.loop-number.number c.loop-number.first (sym c.is_loaded.ensures ∙ w.if-is_loaded.false) c.loop-number.invariant
     ]

@@ -19,8 +19,8 @@ loop-name-preserved-then-is_loaded c =
     let turn = zip_turn c.args.names.now c.args.targets.now c.loop-name.yielded c.into_iter-name-iterator.result c.loop-name.name-iterator c.next.new.self c.next.result first second c.loop-name.yielded_by (c.in-Some.name, c.in-Some.target) c.in-Some.is c.next.ensures.steps in
     let within : c.in-Some.target.now < length c.args.run.now.objs = subst (λ t. t < length c.args.run.now.objs) (sym (turn.3 0)) (c.requires.targets (length c.loop-name.yielded) 0 turn.1) in
     let named : bytes_eq c.in-Some.name.now c.args.file.now ≡ true = ap (λ x. bytes_eq x c.args.file.now) (sym c.as_bytes.ensures) ∙ ap (bytes_eq c.as_bytes.result.now) (sym c.as_bytes-in-loop-name.ensures) ∙ sym c.eq.ensures ∙ c.if-eq.true in
-    one_longer c.args.run.now c.args.phase c.args.file.now c.args.names.now c.args.targets.now c.loop-name.yielded (c.in-Some.name, c.in-Some.target) c.earlier-first.result
-    (c.earlier-first.ensures ∙ target_hit c.args.run.now c.args.phase c.args.file.now c.args.names.now c.args.targets.now (length c.loop-name.yielded) c.in-Some.target.now c.in-Some.name.now turn.0 turn.1 (turn.2 _) (turn.3 _) within named (sym c.is_loaded.ensures ∙ c.if-is_loaded.true) c.loop-name.first c.loop-name.invariant)
+    one_longer c.args.run.now c.args.phase c.args.file.now c.args.names.now c.args.targets.now c.loop-name.yielded (c.in-Some.name, c.in-Some.target) c.lesser_of-first.result
+    (c.lesser_of-first.ensures ∙ target_hit c.args.run.now c.args.phase c.args.file.now c.args.names.now c.args.targets.now (length c.loop-name.yielded) c.in-Some.target.now c.in-Some.name.now turn.0 turn.1 (turn.2 _) (turn.3 _) within named (sym c.is_loaded.ensures ∙ c.if-is_loaded.true) c.loop-name.first c.loop-name.invariant)
 
 pub loop-name-preserved : goal.loop-name-preserved
 loop-name-preserved c =

@@ -1,24 +1,54 @@
 -- Runs over one load list have the same first ask that is not met; so its versions are met or refused, and never both.
-use Rattle.std.proofs.Common.{ℕ, List, [], ◌++◌, ◌==◌, ◌&&◌, ◌||◌, nat_le, Option, Some, None, ◌≡◌, refl, sym, ◌∙◌, ap, ap₂, subst, option_map, length, map, cond, slice_get, take, zip, filter, find, inl, inr}
+use Rattle.std.proofs.Common.{ℕ, zero, suc, List, [], ◌∷◌, ◌++◌, ◌==◌, ◌&&◌, ◌||◌, nat_le, Option, Some, None, ◌≡◌, refl, sym, ◌∙◌, ap, ap₂, subst, option_map, length, map, cond, slice_get, take, zip, filter, find, arith, inl, inr}
 use Rattle.std.proofs.Math.Path.{fun_ext}
 use Rattle.std.specs.List.{enumerate_from, flat_map, list_any}
 use Rattle.std.specs.Option.{unwrap_or}
 use Rattle.std.specs.Str.{bytes_eq}
 use Rattle.answers.specs.First.{first_some}
-use Rattle.listed_runs.proofs.FittingLemmas.{none_too, same_face, there_too}
 use Rattle.load_model.proofs.LoadLists.{at_most_one, list_or_stop}
 use Rattle.load_model.specs.Faces.{face_or_flaw}
 use Rattle.load_model.specs.LoadList.{Loaded, Object, is_named, up_to}
 use Rattle.load_model.specs.Loads.{IsLoadList}
 use Rattle.load_model.specs.Replays.{IsReplayStop}
-use Rattle.load_model.specs.Runs.{IsRunOf, face_at, phase_of}
+use Rattle.load_model.specs.Runs.{IsRunOf, face_at, face_of_object, phase_of}
 use Rattle.load_model.specs.VersionCheck.{Unmet, VersionLacking, asked_by, asks_in, defs_in, first_unmet, has_defined, is_known_by, loaded_by, needs_in, needs_to, phase_at, soname_in, unmet, unmet_by, unmet_of, version_file_of}
 use Rattle.load_model.specs.World.{World}
 use Rattle.load_model.specs.declared.asks.Ask.{Ask}
 use Rattle.load_model.specs.declared.faces.Face.{Face}
 use Rattle.load_model.specs.declared.refusals.LoadRefusal.{LoadRefusal}
+use Rattle.load_model.specs.declared.runs.Obj.{Obj}
 use Rattle.load_model.specs.declared.runs.Run.{Run}
 use Rattle.load_model.specs.declared.setting.Setting.{Setting}
+
+-- as long a list has an element there too
+pub there_too : {X : Type 0} {Y : Type 0} (xs : List X) (ys : List Y) (j : ℕ) (x : X) → length ys ≡ length xs → slice_get xs j ≡ Some x → (y : Y) × (slice_get ys j ≡ Some y)
+there_too [] ys j x e h = cc
+there_too (z ∷ xs) [] j x e h = absurd (omega (arith, e))
+there_too (z ∷ xs) (y ∷ ys) zero x e h = (y, refl)
+there_too (z ∷ xs) (y ∷ ys) (suc j) x e h = there_too xs ys j x (omega (arith, e)) h
+
+-- and none where the other has none
+pub none_too : {X : Type 0} {Y : Type 0} (xs : List X) (ys : List Y) (j : ℕ) → length ys ≡ length xs → slice_get xs j ≡ None → slice_get ys j ≡ None
+none_too [] [] j e h = refl
+none_too [] (y ∷ ys) j e h = absurd (omega (arith, e))
+none_too (z ∷ xs) [] j e h = absurd (omega (arith, e))
+none_too (z ∷ xs) (y ∷ ys) zero e h = absurd (cc)
+none_too (z ∷ xs) (y ∷ ys) (suc j) e h = none_too xs ys j (omega (arith, e)) h
+
+module _ (faces : List Face) (loaded : Loaded) (ends : List Loaded) (run : Run) (run_is : IsRunOf faces [] loaded ends run) where
+  face_there : (j : ℕ) (o : Object) (x : Obj) → slice_get loaded.objs j ≡ Some o → slice_get run.objs j ≡ Some x → face_at faces run j ≡ Some o.face
+  face_there j o x stands there =
+      let is = run_is.objs j x there in
+      let same : is.object ≡ o = let both : Some is.object ≡ Some o = sym is.stands ∙ stands in cc in
+      let face_is : slice_get faces x.face ≡ Some o.face = is.face ∙ ap (λ (p : Object). Some p.face) same in
+      rw there face_is
+
+  -- an object's face is that of the load list
+  pub same_face : (j : ℕ) (found : Option Object) → slice_get loaded.objs j ≡ found → face_at faces run j ≡ face_of_object found
+  same_face j None h = rw (none_too loaded.objs run.objs j run_is.count h) refl
+  same_face j (Some o) h =
+      let w = there_too loaded.objs run.objs j o run_is.count h in
+      face_there j o w.0 h w.1
 
 abbrev phase_in : List Loaded → ℕ → Option Object → ℕ
 phase_in ends j None = 0
@@ -33,7 +63,7 @@ phase_is faces loaded ends run is j (Some o) h =
 
 module _ (faces faces' : List Face) (loaded : Loaded) (ends : List Loaded) (run run' : Run) (is : IsRunOf faces [] loaded ends run) (is' : IsRunOf faces' [] loaded ends run') where
   faces_same : (j : ℕ) → face_at faces run j ≡ face_at faces' run' j
-  faces_same j = same_face [] faces loaded ends run is j (slice_get loaded.objs j) refl ∙ sym (same_face [] faces' loaded ends run' is' j (slice_get loaded.objs j) refl)
+  faces_same j = same_face faces loaded ends run is j (slice_get loaded.objs j) refl ∙ sym (same_face faces' loaded ends run' is' j (slice_get loaded.objs j) refl)
 
   phases_same : (j : ℕ) → phase_at run j ≡ phase_at run' j
   phases_same j = phase_is faces loaded ends run is j (slice_get loaded.objs j) refl ∙ sym (phase_is faces' loaded ends run' is' j (slice_get loaded.objs j) refl)

@@ -4,8 +4,7 @@ use Rattle.std.specs.List.{find}
 use Rattle.std.specs.Option.{option_or}
 use Rattle.std.proofs.lemmas.Bool.{cases_lt}
 use Rattle.std.proofs.lemmas.List.Folds.{find-append}
-use Rattle.load_model.specs.LoadList.{up_to}
-use Rattle.scope_lookup.specs.Firsts.{earlier}
+use Rattle.load_model.specs.LoadList.{up_to, lesser_of}
 
 -- a test may be replaced by one that answers the same
 pub find_same : (p q : ℕ → Bool) (xs : List ℕ) → ((j : ℕ) → p j ≡ q j) → find p xs ≡ find q xs
@@ -21,7 +20,7 @@ pub find-filter : (t p : ℕ → Bool) (xs : List ℕ) → find p (filter t xs) 
 find-filter t p [] = refl
 find-filter t p (x ∷ xs) = kept_first (t x) p x (filter t xs) (find (λ j. t j && p j) xs) (find-filter t p xs)
 
-find_more : (p : ℕ → Bool) (n : ℕ) → find p (up_to (suc n)) ≡ option_or (find p (up_to n)) (cond (p n) (Some n) None)
+pub find_more : (p : ℕ → Bool) (n : ℕ) → find p (up_to (suc n)) ≡ option_or (find p (up_to n)) (cond (p n) (Some n) None)
 unfolding up_to
 find_more p n = find-append p (up_to n) (n ∷ [])
 
@@ -35,7 +34,7 @@ unfolding up_to
 find_below p zero k h = cc
 find_below p (suc n) k h = below_more_of (find p (up_to n)) (p n) n k (λ j e. find_below p n j e) (sym (find_more p n) ∙ h)
 
-either_more : (o r : Option ℕ) (n : ℕ) (b c : Bool) → ((j : ℕ) → o ≡ Some j → j < n) → ((j : ℕ) → r ≡ Some j → j < n) → earlier (option_or o (cond b (Some n) None)) (option_or r (cond c (Some n) None)) ≡ option_or (earlier o r) (cond (b || c) (Some n) None)
+either_more : (o r : Option ℕ) (n : ℕ) (b c : Bool) → ((j : ℕ) → o ≡ Some j → j < n) → ((j : ℕ) → r ≡ Some j → j < n) → lesser_of (option_or o (cond b (Some n) None)) (option_or r (cond c (Some n) None)) ≡ option_or (lesser_of o r) (cond (b || c) (Some n) None)
 either_more None None n true true h g = let e : min n n ≡ n = omega arith in ap Some e
 either_more None None n true false h g = refl
 either_more None None n false c h g = refl
@@ -45,14 +44,14 @@ either_more (Some i) None n b true h g = let less : i < n = h i refl in let e : 
 either_more (Some i) None n b false h g = refl
 either_more (Some i) (Some k) n b c h g = refl
 
-pub earlier_either : (p q : ℕ → Bool) (n : ℕ) → earlier (find p (up_to n)) (find q (up_to n)) ≡ find (λ j. p j || q j) (up_to n)
+pub lesser_either : (p q : ℕ → Bool) (n : ℕ) → lesser_of (find p (up_to n)) (find q (up_to n)) ≡ find (λ j. p j || q j) (up_to n)
 unfolding up_to
-earlier_either p q zero = refl
-earlier_either p q (suc n) =
-    ap (λ o. earlier o (find q (up_to (suc n)))) (find_more p n)
-    ∙ ap (earlier (option_or (find p (up_to n)) (cond (p n) (Some n) None))) (find_more q n)
+lesser_either p q zero = refl
+lesser_either p q (suc n) =
+    ap (λ o. lesser_of o (find q (up_to (suc n)))) (find_more p n)
+    ∙ ap (lesser_of (option_or (find p (up_to n)) (cond (p n) (Some n) None))) (find_more q n)
     ∙ either_more (find p (up_to n)) (find q (up_to n)) n (p n) (q n) (λ j e. find_below p n j e) (λ j e. find_below q n j e)
-    ∙ ap (λ o. option_or o (cond (p n || q n) (Some n) None)) (earlier_either p q n) ∙ sym (find_more (λ j. p j || q j) n)
+    ∙ ap (λ o. option_or o (cond (p n || q n) (Some n) None)) (lesser_either p q n) ∙ sym (find_more (λ j. p j || q j) n)
 
 pub find_none : (p : ℕ → Bool) (n : ℕ) → ((j : ℕ) → j < n → p j ≡ false) → find p (up_to n) ≡ None
 unfolding up_to
