@@ -53,6 +53,20 @@ impl<T> List<T> {
     {
         self.items.as_slice()
     }
+
+    /// The list of these values.
+    pub fn from_vec(items: Vec<T>) -> List<T>
+        ensures { result ≡ items.items }
+    {
+        List { items }
+    }
+
+    /// The values, to be taken out.
+    pub fn into_vec(self) -> Vec<T>
+        ensures { result.items ≡ self }
+    {
+        self.items
+    }
 }
 
 impl List<Name> {
