@@ -15,10 +15,9 @@ use Rattle.lib_closure.specs.Seen.{standing}
 use Rattle.lib_closure.specs.declared.firsts.Firsts.{Firsts}
 use Rattle.lib_closure.specs.declared.seen.LoadList.{LoadList}
 use Rattle.lib_closure.specs.declared.seen.Seen.{Seen}
-use Rattle.lib_closure.proofs.TakenLemmas.{take_next}
+use Rattle.version_files.proofs.TakenLemmas.{take_next}
 use Rattle.load_model.proofs.TwoWorlds.{same_bytes}
-use Rattle.std.specs.Cmp.Lexicographic.{bytes_decides}
-use Rattle.std.proofs.lemmas.Bool.{both_ways}
+use Rattle.text_sets.proofs.FoundLemmas.{bytes_eq-sym}
 
 or_false : (b : Bool) → (b || false) ≡ b
 or_false true = refl
@@ -53,18 +52,6 @@ programs_of_lists faces runs lists h =
     ∙ filter_over (λ run. (faces, run)) (λ p. occurrence_at p.0 p.1 0) runs
 
 -- ---- the host list
-
-unlike : (a b : List ℕ) → bytes_eq a b ≡ false → a ≡ b → ⊥
-unlike a b h e = both_ways (bytes_eq a b) h ((bytes_decides a b).1 e)
-
-bytes_back : (a b : List ℕ) (x y : Bool) → bytes_eq a b ≡ x → bytes_eq b a ≡ y → x ≡ y
-bytes_back a b true true h g = refl
-bytes_back a b false false h g = refl
-bytes_back a b true false h g = absurd (unlike b a g (sym (same_bytes a b h)))
-bytes_back a b false true h g = absurd (unlike a b h (sym (same_bytes b a g)))
-
-pub bytes_eq-sym : (a b : List ℕ) → bytes_eq a b ≡ bytes_eq b a
-bytes_eq-sym a b = bytes_back a b (bytes_eq a b) (bytes_eq b a) refl refl
 
 -- A text that equals one of a list stands for it.
 there_already : (name text : List ℕ) (texts : List (List ℕ)) (b : Bool) → bytes_eq text name ≡ b → list_any (bytes_eq text) texts ≡ true → list_any (bytes_eq name) texts ≡ (list_any (bytes_eq name) texts || b)

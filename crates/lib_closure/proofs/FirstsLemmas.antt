@@ -1,23 +1,17 @@
 -- Objects that are kept at their first places.
-use Rattle.std.proofs.Common.{◌≡◌, ◌∙◌, sym, ap, refl, ℕ, ◌+◌, ◌<◌, ◌≤◌, List, [], ◌∷◌, ◌++◌, Bool, true, false, cond, Option, Some, None, Bor, bytes_eq, drop, get_or, length, map, slice_get}
+use Rattle.std.proofs.Common.{◌≡◌, ◌∙◌, sym, ap, refl, ℕ, ◌+◌, ◌<◌, ◌≤◌, List, [], ◌∷◌, ◌++◌, Bool, true, false, cond, Option, Some, None, bytes_eq, drop, get_or, length, map, slice_get}
 use Rattle.std.specs.List.{find, list_any, position}
-use Rattle.std.specs.Option.{option_and_then, option_copied, option_map}
-use Rattle.std.specs.Slice.{IsGetResult}
+use Rattle.std.specs.Option.{option_and_then, option_map}
 use Rattle.std.proofs.lemmas.List.{map-append}
-use Rattle.std.proofs.lemmas.Option.{slice_get-map, slice_get_past, slice_get_read}
+use Rattle.std.proofs.lemmas.Option.{slice_get-map}
 use Rattle.indexmap.specs.IndexSet.{insert_key}
 use Rattle.lib_closure.specs.Firsts.{AreFirsts}
 use Rattle.lib_closure.specs.Objects.{Occurrence, each_first, has_id, with_object}
 use Rattle.lib_closure.specs.Seen.{standing}
 use Rattle.lib_closure.specs.declared.firsts.Firsts.{Firsts}
 use Rattle.lib_closure.specs.declared.seen.Seen.{Seen}
-use Rattle.lib_closure.proofs.MappedLemmas.{any-map, find-position, position-map}
+use Rattle.text_sets.proofs.MappedLemmas.{any-map, find-position, position-map}
 use Rattle.lib_closure.proofs.PlaceLemmas.{drop_all, drop_read}
-
--- What `get` gives, copied.
-pub got : {X : Type 0} (xs : List X) (i : ℕ) (r : Option (Bor X)) → IsGetResult xs i i r → option_copied r ≡ slice_get xs i
-got xs i None h = sym (slice_get_past xs i h.3)
-got xs i (Some x) h = sym (slice_get_read xs (length xs) i x.now refl h.3.0 h.1)
 
 same_any : (firsts : Firsts) → AreFirsts firsts (map standing firsts.seen.items) → (id : List ℕ) → list_any (bytes_eq id) firsts.ids ≡ list_any (has_id id) (map standing firsts.seen.items)
 same_any firsts are id = ap (list_any (bytes_eq id)) are.ids ∙ any-map (bytes_eq id) (λ (o : Occurrence). o.obj.id) (map standing firsts.seen.items)

@@ -1,9 +1,7 @@
 -- Host libraries of one key, and how many objects the lists have.
-use Rattle.std.proofs.Common.{◌≡◌, ◌∙◌, sym, ap, refl, subst, ℕ, ◌+◌, ◌^◌, ◌<◌, List, [], ◌∷◌, ◌++◌, All, Bool, true, false, cond, ◌||◌, Option, Some, None, bytes_eq, drop, get_or, length, map, slice_get, take, arith, nat_lt}
-use Rattle.std.specs.List.{find, list_any, position, prefix_len}
+use Rattle.std.proofs.Common.{◌≡◌, ◌∙◌, sym, ap, refl, subst, ℕ, ◌+◌, ◌^◌, ◌<◌, List, [], ◌∷◌, ◌++◌, All, false, cond, Option, Some, None, bytes_eq, drop, get_or, length, map, slice_get, take, arith}
+use Rattle.std.specs.List.{find, list_any, position}
 use Rattle.std.specs.Option.{option_and_then, option_map}
-use Rattle.std.specs.Prelude.{not}
-use Rattle.std.proofs.lemmas.Bool.{ltb-true}
 use Rattle.std.proofs.lemmas.List.{length-map, length-take-le, map-append}
 use Rattle.std.proofs.lemmas.Option.{get_or_from_slice_get, slice_get-get_or, slice_get-map, slice_get_read, slice_get_within}
 use Rattle.answers.specs.First.{first_some}
@@ -20,24 +18,10 @@ use Rattle.lib_closure.specs.declared.seen.LoadList.{LoadList}
 use Rattle.lib_closure.specs.declared.seen.Seen.{Seen}
 use Rattle.lib_closure.specs.declared.stops.ClosureStop.{ClosureStop}
 use Rattle.lib_closure.specs.declared.stops.ClosureStop.TheVariants.{HostNameClash}
-use Rattle.lib_closure.proofs.MappedLemmas.{find-position, position-map}
+use Rattle.text_sets.proofs.MappedLemmas.{find-position, position-map}
+use Rattle.text_sets.proofs.FoundLemmas.{none_any, position_within}
 use Rattle.lib_closure.proofs.PlaceLemmas.{drop_read, none_then, some_then}
-use Rattle.lib_closure.proofs.TakenLemmas.{take_next}
-
-within_by : (n len p : ℕ) (b : Bool) → nat_lt n len ≡ b → cond b (Some n) None ≡ Some p → p < len
-within_by n len p true h e = let same : n ≡ p = cc in let less : n < len = ltb-true n len h in omega arith
-within_by n len p false h e = cc
-
-pub position_within : {X : Type 0} (t : X → Bool) (xs : List X) (p : ℕ) → position t xs ≡ Some p → p < length xs
-position_within t xs p h = within_by (prefix_len (λ x. not (t x)) xs) (length xs) p (nat_lt (prefix_len (λ x. not (t x)) xs) (length xs)) refl h
-
-found_none : {X : Type 0} (t : X → Bool) (b : Bool) (x : X) (xs : List X) → (find t xs ≡ None → list_any t xs ≡ false) → t x ≡ b → cond b (Some x) (find t xs) ≡ None → list_any t (x ∷ xs) ≡ false
-found_none t true x xs h e g = cc
-found_none t false x xs h e g = ap (λ b. b || list_any t xs) e ∙ h g
-
-pub none_any : {X : Type 0} (t : X → Bool) (xs : List X) → find t xs ≡ None → list_any t xs ≡ false
-none_any t [] h = refl
-none_any t (x ∷ xs) h = found_none t (t x) x xs (none_any t xs) refl h
+use Rattle.version_files.proofs.TakenLemmas.{take_next}
 
 -- The one found among those before is that at the place of the key.
 found_at : (faces : List Face) (runs : List Run) (names : List (List ℕ)) (before : List Occurrence) (o : Occurrence) (keys : List (List ℕ)) (place : Option ℕ) → keys ≡ map key_held before → place ≡ position (bytes_eq (key_held o)) keys → find (have_one_key faces runs names o) before ≡ option_and_then (slice_get before) place

@@ -1,13 +1,11 @@
-pub mod MappedLemmas
 pub mod FirstsLemmas
 pub mod PlaceLemmas
 pub mod NumberLemmas
 pub mod SeenLemmas
-pub mod TakenLemmas
 pub mod BuildLemmas
 pub mod SideLemmas
 pub mod HostLemmas
-pub mod KnownLemmas
-pub mod LesserLemmas
-pub mod VersionFileLemmas
-pub mod AddingLemmas
+pub mod ContainedLemmas
+pub mod PlacedLemmas
+pub mod SplitLemmas
+pub mod ReachedLemmas

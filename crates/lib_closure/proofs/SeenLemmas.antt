@@ -8,7 +8,7 @@ use Rattle.load_model.specs.VersionCheck.{asks_in, version_file_of}
 use Rattle.load_model.specs.declared.faces.Face.{Face}
 use Rattle.load_model.specs.declared.runs.Obj.{Obj}
 use Rattle.load_model.specs.declared.runs.Run.{Run}
-use Rattle.lib_closure.specs.Files.{files_at, files_of_run}
+use Rattle.version_files.specs.Files.{files_at, files_of_run}
 use Rattle.lib_closure.specs.Objects.{Occurrence, files_named, occurrence, occurrence_at}
 use Rattle.lib_closure.specs.Seen.{standing}
 use Rattle.lib_closure.specs.declared.seen.Seen.{Seen}

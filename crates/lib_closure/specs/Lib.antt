@@ -2,9 +2,7 @@ pub mod Objects
 pub mod Kinds
 pub mod Clashes
 pub mod Splits
-pub mod Known
-pub mod Telling
-pub mod Files
+pub mod SplitLaws
 pub mod Seen
 pub mod Firsts
 pub mod Build

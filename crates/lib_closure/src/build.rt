@@ -13,10 +13,10 @@ ghost use Rattle.listed_runs.specs.Fitting.{is_on_list};
 use crate::firsts::Firsts;
 use crate::lists::{all_seen, programs_seen};
 use crate::seen::{LoadList, Seen};
-use crate::text_sets::TextSet;
 use load_model::{Face, Name, NoMemory, Run};
 use path_text::Abs;
 use std::alloc::Global;
+use text_sets::TextSet;
 
 /// All objects of the load lists of a build, by program and load order, with the names of the host
 /// list.

@@ -1,9 +1,9 @@
 //! Objects that are found by their identities.
 
 use crate::seen::Seen;
-use crate::text_sets::TextSet;
 use load_model::NoMemory;
 use std::alloc::Global;
+use text_sets::TextSet;
 
 /// Objects, each where it was added first, and their identities.
 #[derive(Drop)]

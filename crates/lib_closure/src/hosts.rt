@@ -14,9 +14,9 @@ ghost use Rattle.lib_closure.specs.declared.stops.ClosureStop.TheVariants.{HostN
 use crate::build::Build;
 use crate::seen::Seen;
 use crate::stops::ClosureStop;
-use crate::text_sets::TextSet;
 use load_model::{Name, NoMemory};
 use std::alloc::Global;
+use text_sets::TextSet;
 
 /// The host libraries, each at its first place.
 pub fn hosts_of<'a>(alloc: Global, build: &Build<'a>) -> Result<Vec<Seen<'a>>, NoMemory>

@@ -5,10 +5,9 @@
 
 mod build;
 mod bundled;
-mod files;
 mod firsts;
 mod hosts;
-mod known;
+mod laws;
 mod lists;
 mod parts;
 mod programs;
@@ -16,9 +15,11 @@ mod seen;
 mod splits;
 mod splitting;
 mod stops;
-mod text_sets;
 
-pub use files::files_of_run;
+pub use firsts::Firsts;
+pub use laws::{splits_have_objects, splits_have_parts};
+pub use lists::{all_seen, lists_of, programs_seen};
+pub use seen::{LoadList, Seen};
 pub use splits::{HostLib, Member, Split};
 pub use splitting::split;
 pub use stops::ClosureStop;

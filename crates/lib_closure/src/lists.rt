@@ -7,10 +7,10 @@ ghost use Rattle.lib_closure.specs.Build.{list_of, lists_over};
 ghost use Rattle.lib_closure.specs.Objects.{objects_of, occurrence_at};
 ghost use Rattle.lib_closure.specs.Seen.{standing};
 
-use crate::files::files_of_run;
 use crate::seen::{LoadList, Seen};
 use load_model::{Face, NoMemory, Run};
 use std::alloc::Global;
+use version_files::files_of_run;
 
 /// The load lists of these runs.
 pub fn lists_of<'a>(

@@ -1,7 +1,7 @@
 //! Objects where they stand in load lists, as `specs/Objects.antt` says.
 
 ghost use Rattle.std.specs.Prelude.{◌≡◌, Some, map, vec_items};
-ghost use Rattle.lib_closure.specs.Files.{files_of_run};
+ghost use Rattle.version_files.specs.Files.{files_of_run};
 ghost use Rattle.lib_closure.specs.Objects.{occurrence_at};
 
 use load_model::{Face, Obj, Run};

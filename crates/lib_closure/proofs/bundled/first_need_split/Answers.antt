@@ -6,7 +6,7 @@ use Rattle.lib_closure.specs.Clashes.{first_need_split, goes_elsewhere, need_spl
 use Rattle.lib_closure.specs.Objects.{in_same_list, own_targets}
 use Rattle.lib_closure.specs.OfBuild.{of_build}
 use Rattle.lib_closure.specs.Seen.{standing}
-use Rattle.lib_closure.proofs.FirstsLemmas.{got}
+use Rattle.text_sets.proofs.FoundLemmas.{got}
 use Rattle.lib_closure.proofs.SideLemmas.{second_side_over, sides_here, third_side_over}
 use Rattle.lib_closure.proofs.bundled.first_need_split.Goals as goal
 

@@ -1,7 +1,7 @@
 use Rattle.std.proofs.Common.{map}
 use Rattle.lib_closure.specs.Objects.{occurrence_at}
 use Rattle.lib_closure.specs.Seen.{standing}
-use Rattle.lib_closure.proofs.TakenLemmas.{added_number, none_yet}
+use Rattle.version_files.proofs.TakenLemmas.{added_number, none_yet}
 use Rattle.lib_closure.proofs.lists.add_objects.Goals as goal
 
 pub loop-number-init : goal.loop-number-init

@@ -2,7 +2,7 @@ use Rattle.std.proofs.Common.{map}
 use Rattle.lib_closure.specs.Objects.{occurrence_at}
 use Rattle.lib_closure.specs.Seen.{standing}
 use Rattle.lib_closure.specs.declared.seen.LoadList.{LoadList}
-use Rattle.lib_closure.proofs.TakenLemmas.{added_read}
+use Rattle.version_files.proofs.TakenLemmas.{added_read}
 use Rattle.lib_closure.proofs.lists.programs_seen.Goals as goal
 
 pub loop-list-preserved : goal.loop-list-preserved

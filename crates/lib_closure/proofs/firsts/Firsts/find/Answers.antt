@@ -1,7 +1,8 @@
 use Rattle.std.proofs.Common.{◌≡◌, ◌∙◌, ap, sym, Some, slice_get}
 use Rattle.std.specs.Option.{option_copied, option_map}
 use Rattle.lib_closure.specs.Seen.{standing}
-use Rattle.lib_closure.proofs.FirstsLemmas.{at_place, got}
+use Rattle.text_sets.proofs.FoundLemmas.{got}
+use Rattle.lib_closure.proofs.FirstsLemmas.{at_place}
 use Rattle.lib_closure.proofs.firsts.Firsts.find.Goals as goal
 
 pub returns-in-Some : goal.returns-in-Some

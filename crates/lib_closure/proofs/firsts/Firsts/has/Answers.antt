@@ -1,7 +1,7 @@
 use Rattle.std.proofs.Common.{ap, map, ◌∙◌, bytes_eq}
 use Rattle.std.specs.List.{list_any}
 use Rattle.lib_closure.specs.Seen.{standing}
-use Rattle.lib_closure.proofs.MappedLemmas.{any-map}
+use Rattle.text_sets.proofs.MappedLemmas.{any-map}
 use Rattle.lib_closure.proofs.firsts.Firsts.has.Goals as goal
 
 pub returns : goal.returns

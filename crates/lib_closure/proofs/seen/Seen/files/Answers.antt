@@ -1,7 +1,7 @@
 use Rattle.std.proofs.Common.{◌∙◌, Some, ap, map, sym, slice_get, vec_items}
 use Rattle.std.specs.Option.{option_map}
 use Rattle.std.proofs.lemmas.Option.{slice_get-map, slice_get_past}
-use Rattle.lib_closure.proofs.FirstsLemmas.{got}
+use Rattle.text_sets.proofs.FoundLemmas.{got}
 use Rattle.lib_closure.proofs.SeenLemmas.{files_read, files_unread}
 use Rattle.lib_closure.proofs.seen.Seen.files.Goals as goal
 

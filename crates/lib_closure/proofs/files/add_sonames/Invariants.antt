@@ -1,8 +1,0 @@
-use Rattle.std.specs.List.{flat_map}
-use Rattle.load_model.specs.LoadList.{up_to}
-use Rattle.lib_closure.specs.Known.{sonames_known}
-use Rattle.lib_closure.specs.Telling.{AddsNames, AreNamed}
-use Rattle.lib_closure.proofs.files.add_sonames.Given as goal
-
-abbrev pub invariant-loop-number : goal.invariant-loop-number
-invariant-loop-number l = AreNamed l.known × AddsNames l.initial.known l.known (flat_map (sonames_known l.faces l.run) (up_to l.number))

@@ -1,9 +1,0 @@
-use Rattle.std.proofs.Common.{◌∙◌, ap, map}
-use Rattle.lib_closure.specs.Known.{lesser_of}
-use Rattle.lib_closure.specs.Telling.{known_as, told_first}
-use Rattle.lib_closure.proofs.KnownLemmas.{told_next}
-use Rattle.lib_closure.proofs.known.KnownNames.at.Goals as goal
-
-pub loop-other-preserved : goal.loop-other-preserved
-loop-other-preserved c =
-    told_next (told_first (map known_as c.args.self.now.firsts.items) c.args.phase c.args.name.now) c.args.phase c.args.name.now c.deref-other-items.result.now c.loop-other.other-index c.other-item.result c.loop-other.found c.lesser_of-found.result c.loop-other-test.true c.other-item.is c.loop-other.invariant (c.lesser_of-found.ensures ∙ ap (lesser_of c.loop-other.found) c.known_by.ensures)

@@ -1,0 +1,5 @@
+pub mod KnownLemmas
+pub mod LesserLemmas
+pub mod TakenLemmas
+pub mod VersionFileLemmas
+pub mod AddingLemmas
