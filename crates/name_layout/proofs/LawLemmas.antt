@@ -1,15 +1,15 @@
 -- Names that are given are not on the host list.
 use Rattle.std.proofs.Common.{◌≡◌, ◌∙◌, sym, ap, refl, ℕ, zero, suc, ◌≤◌, List, [], ◌∷◌, ◌++◌, Bool, true, false, cond, not, ◌&&◌, Option, Some, None, bytes_eq, get_or, length, map, slice_get, take, arith}
-use Rattle.std.specs.List.{find}
-use Rattle.std.specs.Option.{option_map}
+use Rattle.std.specs.List.{find, position}
+use Rattle.std.specs.Option.{option_and_then, option_map}
 use Rattle.std.proofs.lemmas.List.Elements.{All-from_get_or}
 use Rattle.std.proofs.lemmas.Option.{slice_get-get_or, slice_get_within}
 use Rattle.answers.specs.First.{first_some, some_where}
 use Rattle.load_model.specs.declared.faces.Face.{Face}
 use Rattle.load_model.specs.declared.runs.Run.{Run}
 use Rattle.listed_runs.specs.Fitting.{is_on_list}
-use Rattle.lib_closure.proofs.BuildLemmas.{bytes_eq-sym}
-use Rattle.lib_closure.proofs.KnownLemmas.{find_passes}
+use Rattle.text_sets.proofs.FoundLemmas.{bytes_eq-sym, find_passes}
+use Rattle.text_sets.proofs.MappedLemmas.{find-position}
 use Rattle.lib_closure.specs.declared.splits.Member.{Member}
 use Rattle.lib_closure.specs.declared.splits.Split.{Split}
 use Rattle.name_layout.specs.Laws.{AreOffList}
@@ -18,15 +18,15 @@ use Rattle.name_layout.specs.Openings.{Opening, bundled_stop, first_opening_stop
 
 -- ---- none of the first ones
 
-none_first : {A : Type 0} (a : Option A) (more : List (Option A)) → first_some (a ∷ more) ≡ None → a ≡ None
+pub none_first : {A : Type 0} (a : Option A) (more : List (Option A)) → first_some (a ∷ more) ≡ None → a ≡ None
 none_first None more h = refl
 none_first (Some x) more h = cc
 
-none_then : {A : Type 0} (a : Option A) (more : List (Option A)) → first_some (a ∷ more) ≡ None → first_some more ≡ None
+pub none_then : {A : Type 0} (a : Option A) (more : List (Option A)) → first_some (a ∷ more) ≡ None → first_some more ≡ None
 none_then None more h = h
 none_then (Some x) more h = cc
 
-nowhere : {A : Type 0} (b : Bool) (a : A) → some_where b a ≡ None → b ≡ false
+pub nowhere : {A : Type 0} (b : Bool) (a : A) → some_where b a ≡ None → b ≡ false
 nowhere true a h = cc
 nowhere false a h = refl
 
@@ -34,28 +34,38 @@ none_by : {X A : Type 0} (f : X → Option A) (p : X → Bool) (b : Bool) (x y :
 none_by f p true x y xs h e g = let same : x ≡ y = cc in ap f (sym same) ∙ none_first (f x) (map f xs) g
 none_by f p false x y xs h e g = h e (none_then (f x) (map f xs) g)
 
-none_of : {X A : Type 0} (f : X → Option A) (p : X → Bool) (xs : List X) (y : X) → find p xs ≡ Some y → first_some (map f xs) ≡ None → f y ≡ None
+pub none_of : {X A : Type 0} (f : X → Option A) (p : X → Bool) (xs : List X) (y : X) → find p xs ≡ Some y → first_some (map f xs) ≡ None → f y ≡ None
 none_of f p [] y h g = cc
 none_of f p (x ∷ xs) y h g = none_by f p (p x) x y xs (none_of f p xs y) h g
 
-missed_by : {X : Type 0} (p : X → Bool) (b : Bool) (x y : X) (xs : List X) → p x ≡ b → p y ≡ true → x ≡ y → cond b (Some x) (find p xs) ≡ None → ⊥
+pub missed_by : {X : Type 0} (p : X → Bool) (b : Bool) (x y : X) (xs : List X) → p x ≡ b → p y ≡ true → x ≡ y → cond b (Some x) (find p xs) ≡ None → ⊥
 missed_by p true x y xs h g e m = cc
 missed_by p false x y xs h g e m = let same : p x ≡ p y = ap p e in cc
 
-missed_more : {X : Type 0} (p : X → Bool) (b : Bool) (x : X) (xs : List X) → cond b (Some x) (find p xs) ≡ None → find p xs ≡ None
+pub missed_more : {X : Type 0} (p : X → Bool) (b : Bool) (x : X) (xs : List X) → cond b (Some x) (find p xs) ≡ None → find p xs ≡ None
 missed_more p true x xs h = cc
 missed_more p false x xs h = h
 
 -- One that passes is not missed.
-missed : {X : Type 0} (p : X → Bool) (xs : List X) (i : ℕ) (y : X) → slice_get xs i ≡ Some y → p y ≡ true → find p xs ≡ None → ⊥
+pub missed : {X : Type 0} (p : X → Bool) (xs : List X) (i : ℕ) (y : X) → slice_get xs i ≡ Some y → p y ≡ true → find p xs ≡ None → ⊥
 missed p [] i y h g m = cc
 missed p (x ∷ xs) zero y h g m = let same : x ≡ y = cc in missed_by p (p x) x y xs refl g same m
 missed p (x ∷ xs) (suc i) y h g m = missed p xs i y h g (missed_more p (p x) x xs m)
 
-missing : {X : Type 0} (xs : List X) (i : ℕ) → slice_get xs i ≡ None → length xs ≤ i
+pub missing : {X : Type 0} (xs : List X) (i : ℕ) → slice_get xs i ≡ None → length xs ≤ i
 missing [] i h = omega arith
 missing (x ∷ xs) zero h = cc
 missing (x ∷ xs) (suc i) h = let more = missing xs i h in omega arith
+
+-- ---- what is found
+
+-- What is found stands somewhere.
+standing_by : {X : Type 0} (xs : List X) (place : Option ℕ) (y : X) → option_and_then (slice_get xs) place ≡ Some y → (i : ℕ) × (slice_get xs i ≡ Some y)
+standing_by xs None y h = cc
+standing_by xs (Some i) y h = (i, h)
+
+pub stands_at : {X : Type 0} (p : X → Bool) (xs : List X) (y : X) → find p xs ≡ Some y → (i : ℕ) × (slice_get xs i ≡ Some y)
+stands_at p xs y h = standing_by xs (position p xs) y (sym (find-position p xs) ∙ h)
 
 -- ---- opened names
 
@@ -82,7 +92,7 @@ module _ (faces : List Face) (runs : List Run) (split : Split) (names : List (Li
   name_off taken lib i name None at found none h = free_off (is_on_list taken name) (is_on_list names name) h.free
   name_off taken lib i name (Some o) at found none h = ap (is_on_list names) h ∙ opening_off lib i o at found none
 
-  stop_none : first_name_stop faces runs split names ≡ None → first_opening_stop split names runs ≡ None
+  pub stop_none : first_name_stop faces runs split names ≡ None → first_opening_stop split names runs ≡ None
   unfolding first_name_stop
   stop_none h = none_first (first_opening_stop split names runs) (first_bad_key faces runs split names ∷ []) h
 

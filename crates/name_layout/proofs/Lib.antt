@@ -4,3 +4,6 @@ pub mod OrderLemmas
 pub mod OpenedLemmas
 pub mod StartsLemmas
 pub mod LawLemmas
+pub mod IdentityLemmas
+pub mod DistinctLemmas
+pub mod FileNameLemmas

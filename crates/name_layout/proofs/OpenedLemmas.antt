@@ -2,8 +2,8 @@
 use Rattle.std.proofs.Common.{◌≡◌, ◌∙◌, sym, ap, ap₂, ℕ, zero, suc, ◌+◌, ◌≤◌, List, [], ◌∷◌, ◌++◌, Option, Some, length, min, slice_get, take, zip}
 use Rattle.std.specs.List.{filter_map}
 use Rattle.std.specs.Option.{option_to_list}
-use Rattle.lib_closure.proofs.AddingLemmas.{all_taken, take_at}
-use Rattle.lib_closure.proofs.TakenLemmas.{added}
+use Rattle.version_files.proofs.AddingLemmas.{all_taken, take_at}
+use Rattle.version_files.proofs.TakenLemmas.{added}
 
 zip_at : {A B : Type 0} (xs : List A) (ys : List B) (i : ℕ) (x : A) (y : B) → slice_get xs i ≡ Some x → slice_get ys i ≡ Some y → slice_get (zip xs ys) i ≡ Some (x, y)
 zip_at [] ys i x y h g = cc

@@ -13,9 +13,9 @@ use Rattle.std.proofs.lemmas.Option.{slice_get-get_or, slice_get-map, slice_get_
 use Rattle.indexmap.specs.IndexSet.{insert_key}
 use Rattle.load_model.proofs.Counts.{slice_get_left}
 use Rattle.load_model.proofs.TwoWorlds.{same_bytes}
-use Rattle.lib_closure.proofs.HostLemmas.{none_any, position_within}
-use Rattle.lib_closure.proofs.MappedLemmas.{find-position, position-map}
-use Rattle.lib_closure.proofs.TakenLemmas.{take_next}
+use Rattle.text_sets.proofs.FoundLemmas.{none_any, position_within}
+use Rattle.text_sets.proofs.MappedLemmas.{find-position, position-map}
+use Rattle.version_files.proofs.TakenLemmas.{take_next}
 use Rattle.name_layout.specs.Sets.{HasPlaces, place_kept}
 use Rattle.name_layout.specs.declared.places.Places.{Places}
 

@@ -5,8 +5,9 @@ use Rattle.std.proofs.Math.Seq.{take-append_seam}
 use Rattle.std.proofs.lemmas.List.{map-append, length-append, take_all}
 use Rattle.indexmap.specs.IndexSet.{insert_key}
 use Rattle.listed_runs.specs.Fitting.{is_on_list}
-use Rattle.lib_closure.proofs.BuildLemmas.{bytes_eq-sym, listed_next}
-use Rattle.lib_closure.proofs.TakenLemmas.{take_next}
+use Rattle.text_sets.proofs.FoundLemmas.{bytes_eq-sym}
+use Rattle.lib_closure.proofs.BuildLemmas.{listed_next}
+use Rattle.version_files.proofs.TakenLemmas.{take_next}
 use Rattle.name_layout.specs.Sets.{HasNames}
 
 -- A test from either side.

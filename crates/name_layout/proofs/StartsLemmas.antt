@@ -12,8 +12,8 @@ use Rattle.indexmap.specs.IndexSet.{insert_key}
 use Rattle.load_model.proofs.Counts.{slice_get_left}
 use Rattle.load_model.proofs.TwoWorlds.{same_bytes}
 use Rattle.listed_runs.specs.Fitting.{is_on_list}
-use Rattle.lib_closure.proofs.HostLemmas.{none_any, position_within}
-use Rattle.lib_closure.proofs.MappedLemmas.{find-position}
+use Rattle.text_sets.proofs.FoundLemmas.{none_any, position_within}
+use Rattle.text_sets.proofs.MappedLemmas.{find-position}
 use Rattle.name_layout.specs.Layouts.{candidate_name, is_free}
 use Rattle.name_layout.specs.Taken.{AreTried}
 use Rattle.name_layout.specs.declared.taken.Taken.{Taken}

@@ -6,7 +6,7 @@ ghost use Rattle.std.specs.Prelude.{◌≡◌, IfOk};
 ghost use Rattle.std.specs.Option.{option_map};
 ghost use Rattle.name_layout.specs.Layouts.{bad_key, first_bad_key, member_key, soname_at};
 
-use crate::opened::OpenedNames;
+use crate::opened_names::OpenedNames;
 use crate::stops::NameStop;
 use lib_closure::Member;
 use load_model::{Face, Name, NoMemory};

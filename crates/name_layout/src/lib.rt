@@ -6,14 +6,18 @@
 mod free_names;
 mod keys;
 mod layouts;
+mod libs;
 mod name_sets;
 mod naming;
 mod opened;
+mod opened_names;
+mod opened_places;
 mod opening_stops;
 mod places;
 mod stops;
 mod taken;
 
 pub use layouts::Layout;
+pub use libs::Libs;
 pub use naming::name_all;
 pub use stops::NameStop;

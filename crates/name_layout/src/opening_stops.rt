@@ -10,7 +10,8 @@ ghost use Rattle.name_layout.specs.Opened.{as_opening};
 ghost use Rattle.name_layout.specs.Openings.{bundled_stop, first_of_name, first_of_root, first_opening_stop, lib_with, name_given, opening_stop, renamed};
 ghost use Rattle.name_layout.specs.declared.stops.NameStop.TheVariants.{OpenAlias};
 
-use crate::opened::{Opened, OpenedNames};
+use crate::opened::Opened;
+use crate::opened_names::OpenedNames;
 use crate::stops::NameStop;
 use lib_closure::{HostLib, Member};
 use load_model::NoMemory;

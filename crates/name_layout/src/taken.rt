@@ -11,7 +11,7 @@ ghost use Rattle.name_layout.specs.Taken.{AreTried};
 use crate::free_names::first_free;
 use crate::keys::member_key;
 use crate::name_sets::NameSet;
-use crate::opened::OpenedNames;
+use crate::opened_names::OpenedNames;
 use lib_closure::Member;
 use load_model::{Face, List, Name, NoMemory};
 use std::alloc::Global;

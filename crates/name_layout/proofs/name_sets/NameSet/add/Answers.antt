@@ -1,5 +1,5 @@
 use Rattle.std.proofs.Common.{vec_items}
-use Rattle.lib_closure.proofs.MappedLemmas.{inserted}
+use Rattle.text_sets.proofs.MappedLemmas.{inserted}
 use Rattle.name_layout.proofs.name_sets.NameSet.add.Goals as goal
 
 pub returns : goal.returns

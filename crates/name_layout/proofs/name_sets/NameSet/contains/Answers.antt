@@ -1,6 +1,6 @@
 use Rattle.std.proofs.Common.{ap, sym, ◌∙◌, bytes_eq, vec_items}
 use Rattle.std.specs.List.{list_any}
-use Rattle.lib_closure.proofs.MappedLemmas.{any-map}
+use Rattle.text_sets.proofs.MappedLemmas.{any-map}
 use Rattle.name_layout.proofs.name_sets.NameSet.contains.Goals as goal
 
 pub returns : goal.returns

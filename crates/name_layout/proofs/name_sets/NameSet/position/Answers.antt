@@ -1,5 +1,5 @@
 use Rattle.std.proofs.Common.{ap, sym, ◌∙◌, bytes_eq, position, vec_items}
-use Rattle.lib_closure.proofs.MappedLemmas.{position-map}
+use Rattle.text_sets.proofs.MappedLemmas.{position-map}
 use Rattle.name_layout.proofs.name_sets.NameSet.position.Goals as goal
 
 pub returns : goal.returns

@@ -1,6 +1,6 @@
 use Rattle.lib_closure.specs.declared.splits.Member.{Member}
 use Rattle.name_layout.proofs.PlacesLemmas.{places_all, places_next}
-use Rattle.name_layout.proofs.opened.lib_places.Goals as goal
+use Rattle.name_layout.proofs.libs.lib_places.Goals as goal
 
 pub loop-lib-preserved : goal.loop-lib-preserved
 loop-lib-preserved c =

@@ -1,7 +1,7 @@
 use Rattle.std.proofs.Common.{◌∙◌, ap, sym, None, Some, slice_get}
 use Rattle.lib_closure.specs.declared.splits.HostLib.{HostLib}
 use Rattle.name_layout.proofs.PlacesLemmas.{found_at, got_now}
-use Rattle.name_layout.proofs.opened.Libs.host_with.Goals as goal
+use Rattle.name_layout.proofs.libs.Libs.host_with.Goals as goal
 
 pub returns-in-Some : goal.returns-in-Some
 returns-in-Some c =

@@ -1,6 +1,6 @@
 use Rattle.lib_closure.specs.declared.splits.HostLib.{HostLib}
 use Rattle.name_layout.proofs.PlacesLemmas.{places_all, places_next}
-use Rattle.name_layout.proofs.opened.host_places.Goals as goal
+use Rattle.name_layout.proofs.libs.host_places.Goals as goal
 
 pub loop-host-preserved : goal.loop-host-preserved
 loop-host-preserved c =

@@ -4,7 +4,7 @@ use Rattle.name_layout.specs.Openings.{Opening}
 use Rattle.name_layout.specs.Sets.{HasPlaces}
 use Rattle.name_layout.specs.declared.opened.Opened.{Opened}
 use Rattle.name_layout.proofs.PlacesLemmas.{map_through, places_all, places_next}
-use Rattle.name_layout.proofs.opened.root_places.Goals as goal
+use Rattle.name_layout.proofs.opened_places.root_places.Goals as goal
 
 pub loop-opened-preserved : goal.loop-opened-preserved
 loop-opened-preserved c =

@@ -1,7 +1,7 @@
 use Rattle.std.proofs.Common.{◌≡◌, filter, is_some, map, take}
 use Rattle.name_layout.specs.Opened.{as_opening}
 use Rattle.name_layout.specs.Openings.{Opening, lib_with}
-use Rattle.name_layout.proofs.opened.bundled_openings.Given as goal
+use Rattle.name_layout.proofs.opened_names.bundled_openings.Given as goal
 
 abbrev pub invariant-loop-opened : goal.invariant-loop-opened
 invariant-loop-opened l =

@@ -2,7 +2,7 @@ use Rattle.std.proofs.Common.{◌≡◌, ◌∙◌, ap, filter, is_some, map, su
 use Rattle.name_layout.specs.Opened.{as_opening}
 use Rattle.name_layout.specs.Openings.{Opening, bundled_openings, lib_with, openings}
 use Rattle.name_layout.specs.Sets.{HasPlaces}
-use Rattle.name_layout.proofs.opened.OpenedNames.of.Goals as goal
+use Rattle.name_layout.proofs.opened_names.OpenedNames.of.Goals as goal
 
 pub invariant_of-result : goal.invariant_of-result
 unfolding bundled_openings
