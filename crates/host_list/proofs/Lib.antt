@@ -3,3 +3,4 @@ mod LookLemmas
 mod VersionLemmas
 mod OrderLemmas
 mod CanonicalLemmas
+pub mod ClosingLemmas

@@ -9,7 +9,7 @@ use Rattle.load_model.specs.declared.asks.Ask.{Ask}
 use Rattle.load_model.specs.declared.faces.Face.{Face}
 use Rattle.load_model.specs.declared.runs.Run.{Run}
 use Rattle.host_list.specs.Recording.{asked_version, host_at, versions_by}
-use Rattle.lib_closure.specs.Files.{files_at}
+use Rattle.version_files.specs.Files.{files_at}
 use Rattle.host_list.specs.Versions.{versions_beside}
 
 -- the asks of an object beside its files

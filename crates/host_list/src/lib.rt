@@ -6,6 +6,7 @@
 
 mod differences;
 mod interps;
+mod laws;
 mod libs;
 mod looks;
 mod places;
@@ -17,4 +18,5 @@ pub use differences::Difference;
 pub use host_record::{
     Answer, Look, RecLib, RecVersion, Record, RecordFault, read_record, write_record,
 };
+pub use laws::splits_are_recordable;
 pub use recording::record_of;

@@ -1,11 +1,12 @@
 //! The record of the runs of a build. Definition: `IsRecordOf` of `specs/Recording.antt`.
 
-ghost use Rattle.std.specs.Prelude.{◌≡◌, ◌<◌, All, IfOk, IsSome, OnOk, flat_map, fold, length, map};
+ghost use Rattle.std.specs.Prelude.{◌≡◌, ◌<◌, ℕ, List, Ok, All, IfOk, IsSome, OnOk, flat_map, fold, length, map};
 ghost use Rattle.std.specs.BTreeSet.{insert_key};
 ghost use Rattle.load_model.specs.Bindings.{IsBindOver, all_binds, offered_by};
 ghost use Rattle.load_model.specs.Opening.{AreFew};
 ghost use Rattle.load_model.specs.Runs.{IsRunOver};
 ghost use Rattle.load_model.specs.declared.runs.Run.{Run};
+ghost use Rattle.lib_closure.specs.Splits.{split_of};
 ghost use Rattle.host_list.specs.Recording.{AreClosed, IsRecordOf, distinct_in_order, looks_of_run, program_interp, versions_of_run};
 ghost use Rattle.host_record.specs.Canonical.{IsCanonical};
 ghost use Rattle.host_record.specs.Orders.{full_look_cmp, version_cmp};
@@ -16,11 +17,12 @@ use crate::looks::add_binds;
 use crate::places::Place;
 use crate::versions::add_versions;
 use host_record::{Look, RecVersion, Record};
-use lib_closure::{HostLib, Split, files_of_run};
+use lib_closure::{HostLib, Split};
 use load_model::{Bind, Face, List, NoMemory, Offers, Run};
 use loader_replay::binds_of;
 use std::alloc::Global;
 use std::collections::BTreeSet;
+use version_files::files_of_run;
 
 /// What these runs, so split, ask of host libraries and find there.
 ///
@@ -41,6 +43,9 @@ pub fn record_of<F: Offers>(
     ensures record_is { IfOk result (IsRecordOf faces.now runs.now split.now) }
     // Where the names of host libraries are distinct and each of their needs is one of them.
     ensures canonical { AreClosed faces.now split.now.hosts → IfOk result IsCanonical }
+    // So it is where these runs are split so, whatever the host list.
+    ensures canonical_split { (names : List (List ℕ))
+        → split_of faces.now runs.now names ≡ Ok split.now → IfOk result IsCanonical }
 {
     made_record(alloc, faces, index, runs, split)
 }

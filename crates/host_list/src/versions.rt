@@ -8,7 +8,7 @@ ghost use Rattle.load_model.specs.Runs.{IsRunOver};
 ghost use Rattle.host_record.specs.Orders.{version_cmp};
 ghost use Rattle.host_list.specs.Places.{IsPlaceInRun};
 ghost use Rattle.host_list.specs.Recording.{host_at, host_numbers, version_asked, versions_by};
-ghost use Rattle.lib_closure.specs.Files.{files_at as files_named_by, files_of_run};
+ghost use Rattle.version_files.specs.Files.{files_at as files_named_by, files_of_run};
 ghost use Rattle.host_list.specs.Versions.{versions_beside};
 
 use crate::places::{Place, host_at};

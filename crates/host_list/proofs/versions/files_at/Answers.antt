@@ -1,7 +1,7 @@
 use Rattle.std.proofs.Common.{◌≡◌, ◌∙◌, ◌<◌, arith, length, refl, vec_items}
 use Rattle.std.proofs.lemmas.Option.{slice_get_read}
 use Rattle.host_list.proofs.NumberLemmas.{made_count, made_there}
-use Rattle.lib_closure.specs.Files.{files_at, files_of_run}
+use Rattle.version_files.specs.Files.{files_at, files_of_run}
 use Rattle.host_list.proofs.versions.files_at.Goals as goal
 
 pub bounds-files-obj : goal.bounds-files-obj
