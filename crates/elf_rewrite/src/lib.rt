@@ -11,7 +11,7 @@ mod files;
 mod fill;
 mod laws;
 mod layout;
-mod numbering;
+pub mod numbering;
 mod overlap;
 mod patch;
 mod pieces;

@@ -41,8 +41,8 @@ pub fn load_checked<P: Opener>(
     }
 }
 
-/// Whether the versions that the objects of a run ask for are there.
-fn check(alloc: Global, faces: &[Face], run: &Run) -> Result<(), ReplayStop>
+/// Whether the versions that the objects of a run ask for are there; else the first that is not.
+pub fn check(alloc: Global, faces: &[Face], run: &Run) -> Result<(), ReplayStop>
     requires run { IsRunOver faces.now run.now }
     requires few { AreFew faces.now }
     ensures { IsCheck faces.now run.now result }

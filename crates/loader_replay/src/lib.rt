@@ -12,6 +12,6 @@ mod replaying;
 mod stops;
 
 pub use bindings::binds_of;
-pub use checked::load_checked;
+pub use checked::{check, load_checked};
 pub use replaying::replay;
 pub use stops::ReplayStop;
