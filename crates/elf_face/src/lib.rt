@@ -18,3 +18,4 @@ pub use face::read_face;
 pub use faults::{FaceFault, flaw_of};
 pub use load_model::{Face, Flaw};
 pub use loaded::{Loaded, read_loaded};
+pub use parts::Parts;

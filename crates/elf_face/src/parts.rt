@@ -1,20 +1,22 @@
 //! The parts of a file, each read by its own reader.
 
 ghost use Rattle.std.specs.Prelude.{◌≡◌, ◌<◌, ◌^◌, IfOk, length};
+ghost use Rattle.std.specs.Option.{option_copied};
 ghost use Rattle.answers.specs.Answers.{TellsBy};
 ghost use Rattle.byte_view.specs.DynamicFlaws.{dynamic_flaw};
 ghost use Rattle.byte_view.specs.HeaderFlaws.{header_flaw};
 ghost use Rattle.byte_view.specs.Sound.{IsReadFrom};
+ghost use Rattle.byte_view.specs.declared.constants.TheConstants.{DT_SONAME};
 ghost use Rattle.dyn_table.specs.Table.{IsTableOf};
 ghost use Rattle.elf_face.specs.Faults.{flaw_of};
 ghost use Rattle.elf_face.specs.ReadParts.{ArePartsOf};
-ghost use Rattle.load_model.specs.Faces.{first_flaw, name_flaw};
+ghost use Rattle.load_model.specs.Faces.{first_flaw, name_flaw, named_text, needs_of};
 ghost use Rattle.load_model.specs.SymbolFlaws.{symbol_count, symbol_flaw};
 ghost use Rattle.load_model.specs.VersionFlaws.{version_flaw};
 ghost use Rattle.sym_tables.specs.ReadSymbols.{IsSymsOf};
 ghost use Rattle.version_tables.specs.VersionLists.{IsVersionsOf};
 
-use crate::entries::check_texts;
+use crate::entries::{check_texts, named_text, needs_of};
 use crate::faults::FaceFault;
 use crate::interp::check_interp;
 use crate::versions::check_files;
@@ -22,23 +24,24 @@ use byte_view::Flaw;
 use byte_view::constants::{DT_NEEDED, DT_RPATH, DT_RUNPATH, DT_SONAME};
 use dyn_table::{Dyn, DynFault};
 use elf_headers::{Elf, ElfFault};
+use load_model::{List, Name, NoMemory};
 use std::alloc::Global;
 use sym_tables::{SymFault, Syms};
 use version_tables::{VersionFault, Versions};
 
 /// The parts of a file that has no flaw.
 #[derive(Drop)]
-pub(crate) struct Parts {
-    pub(crate) elf: Elf,
-    pub(crate) table: Dyn,
-    pub(crate) syms: Syms,
-    pub(crate) versions: Versions,
+pub struct Parts {
+    pub elf: Elf,
+    pub table: Dyn,
+    pub syms: Syms,
+    pub versions: Versions,
 }
 
 impl Parts {
     /// Reads all parts and the names, or answers the first flaw of the file.
     #[tactic(auto, unfolding(load_model::specs::Faces::first_flaw))]
-    pub(crate) fn read(alloc: Global, bytes: &[u8]) -> Result<Parts, FaceFault>
+    pub fn read(alloc: Global, bytes: &[u8]) -> Result<Parts, FaceFault>
         ensures flaw { TellsBy flaw_of result (first_flaw bytes.now) }
         ensures parts { IfOk result (λ parts. ArePartsOf parts bytes.now) }
     {
@@ -55,6 +58,22 @@ impl Parts {
             }),
             Err(fault) => Err(fault),
         }
+    }
+
+    /// The names of the needed libraries, in order, of the file that the parts were read from.
+    pub fn needs(&self, alloc: Global, bytes: &[u8]) -> Result<List<Name>, NoMemory>
+        requires { ArePartsOf self.now bytes.now }
+        ensures { IfOk result (λ needs. needs ≡ needs_of bytes.now) }
+    {
+        needs_of(alloc, &self.table, bytes)
+    }
+
+    /// The file's own name, where it has one.
+    pub fn soname<'a>(&self, bytes: &'a [u8]) -> Option<&'a [u8]>
+        requires { ArePartsOf self.now bytes.now }
+        ensures { option_copied result ≡ named_text bytes.now DT_SONAME }
+    {
+        named_text(&self.table, bytes, DT_SONAME)
     }
 }
 
