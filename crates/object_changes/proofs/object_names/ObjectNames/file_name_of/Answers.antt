@@ -1,0 +1,14 @@
+use Rattle.std.proofs.Common.{◌∙◌, ap, sym, None, Some, slice_get}
+use Rattle.std.specs.Option.{option_and_then}
+use Rattle.name_layout.proofs.PlacesLemmas.{got_now}
+use Rattle.object_changes.proofs.NameLemmas.{lib_place}
+use Rattle.object_changes.proofs.object_names.ObjectNames.file_name_of.Goals as goal
+
+pub returns-in-Some : goal.returns-in-Some
+returns-in-Some c =
+    got_now c.as_slice.result.now c.in-Some.place c.get.result c.get.ensures.lookup ∙ ap (λ xs. slice_get xs c.in-Some.place) c.as_slice.ensures
+    ∙ ap (option_and_then (slice_get c.args.self.now.layout.now.libs)) (lib_place c.args.self.now.libs.split.now c.args.self.now.libs.bundled c.args.id.now (Some c.in-Some.place) c.args.self.now.libs.bundled_are (sym c.in-Some.is ∙ c.place.ensures))
+
+pub returns-in-None : goal.returns-in-None
+returns-in-None c =
+    ap (option_and_then (slice_get c.args.self.now.layout.now.libs)) (lib_place c.args.self.now.libs.split.now c.args.self.now.libs.bundled c.args.id.now None c.args.self.now.libs.bundled_are (sym c.in-None.is ∙ c.place.ensures))
