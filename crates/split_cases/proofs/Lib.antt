@@ -1,2 +1,1 @@
 pub mod GrownLemmas
-pub mod OpenedLemmas
