@@ -1,14 +1,16 @@
 //! The cases of a document, each with its files, its programs, its host list, and the lines that it
-//! wants.
+//! wants, of its split and of the names of its libraries.
 
 use case_rows::{Fault, Row};
 use load_files::Case;
 use toml::Value;
 
 /// The names of a case's fields.
-const BUILD: [&str; 6] = ["name", "dirs", "files", "programs", "names", "wants"];
+const BUILD: [&str; 7] = [
+    "name", "dirs", "files", "programs", "names", "wants", "layout",
+];
 
-/// What is there, what is loaded, the host list, and the lines of the answer.
+/// What is there, what is loaded, the host list, and the lines of both answers.
 #[derive(Clone, Copy)]
 pub struct BuildCase<'a> {
     /// The listed directories.
@@ -18,8 +20,10 @@ pub struct BuildCase<'a> {
     pub programs: &'a [Value],
     /// The names of the host list.
     pub names: &'a [Value],
-    /// The lines of the answer.
+    /// The lines of the split.
     pub wants: &'a [Value],
+    /// The lines of the names, where the case says them.
+    pub layout: &'a [Value],
 }
 
 impl<'a> BuildCase<'a> {
@@ -31,11 +35,21 @@ impl<'a> BuildCase<'a> {
             programs: row.list("programs")?,
             names: row.list("names")?,
             wants: row.list("wants")?,
+            layout: row.list("layout")?,
         })
     }
 
     /// What a case of files has of it.
     pub fn files_alone(&self) -> Case<'a> {
+        self.wanting(self.wants)
+    }
+
+    /// The same, with the lines of the names in place of those of the split.
+    pub fn layout_alone(&self) -> Case<'a> {
+        self.wanting(self.layout)
+    }
+
+    fn wanting(&self, wants: &'a [Value]) -> Case<'a> {
         Case {
             dirs: self.dirs,
             lib: None,
@@ -45,7 +59,7 @@ impl<'a> BuildCase<'a> {
             chained: false,
             program: None,
             opens: &[],
-            wants: self.wants,
+            wants,
         }
     }
 }

@@ -1,16 +1,59 @@
-//! Splits and clashes as lines.
+//! Splits, names and what keeps from them, as lines.
 
+use crate::running::Outcome;
 use case_rows::Fault;
 use lib_closure::{ClosureStop, HostLib, Member, Split};
 use load_model::{Name, escape};
+use name_layout::{Layout, NameStop};
 use path_text::Abs;
 use std::alloc::Global;
 
 /// The lines of a split, or the line of a clash.
-pub fn outcome_lines(alloc: Global, answer: &Result<Split, ClosureStop>) -> Result<Vec<u8>, Fault> {
-    match answer {
-        Ok(split) => split_lines(alloc, split),
-        Err(stop) => stop_line(alloc, stop),
+pub fn outcome_lines(alloc: Global, outcome: &Outcome) -> Result<Vec<u8>, Fault> {
+    match outcome {
+        Outcome::Named(split, _) => split_lines(alloc, split),
+        Outcome::Clash(stop) => stop_line(alloc, stop),
+    }
+}
+
+/// The lines of the names of the libraries, or the line of the first refusal; none where there is
+/// a clash.
+pub fn layout_lines(alloc: Global, outcome: &Outcome) -> Result<Vec<u8>, Fault> {
+    match outcome {
+        Outcome::Named(split, Ok(layout)) => name_lines(alloc, split, layout),
+        Outcome::Named(_, Err(stop)) => refusal_line(alloc, stop),
+        Outcome::Clash(_) => Ok(Vec::new(alloc)),
+    }
+}
+
+/// A line for each bundled library: its name and its path.
+fn name_lines(alloc: Global, split: &Split, layout: &Layout) -> Result<Vec<u8>, Fault> {
+    let mut text = Vec::new(alloc);
+    for (lib, name) in split.libs.as_slice().iter().zip(layout.libs.as_slice()) {
+        let line = line(alloc, b"name", &[name.as_bytes(), bytes(&lib.path)])?;
+        text.extend_from_slice(line.as_slice())?;
+    }
+    Ok(text)
+}
+
+/// A line of the refusal's name and its evidence.
+fn refusal_line(alloc: Global, stop: &NameStop) -> Result<Vec<u8>, Fault> {
+    match stop {
+        NameStop::OpenAlias(name, key) => {
+            line(alloc, b"OpenAlias", &[name.as_bytes(), key.as_bytes()])
+        }
+        NameStop::OpenNameOnHostList(name) => {
+            line(alloc, b"OpenNameOnHostList", &[name.as_bytes()])
+        }
+        NameStop::TwoOpenNames(path, one, other) => {
+            let fields = [bytes(path), one.as_bytes(), other.as_bytes()];
+            line(alloc, b"TwoOpenNames", fields.as_slice())
+        }
+        NameStop::NameClash(name, one, other) => {
+            clash_line(alloc, b"NameClash", name, one, other)
+        }
+        NameStop::BadFileName(name) => line(alloc, b"BadFileName", &[name.as_bytes()]),
+        NameStop::NoMemory => Err(Fault::NoMemory),
     }
 }
 
@@ -59,7 +102,9 @@ fn stop_line(alloc: Global, stop: &ClosureStop) -> Result<Vec<u8>, Fault> {
         ClosureStop::HostAlias(path, name) => {
             line(alloc, b"HostAlias", &[bytes(path), name.as_bytes()])
         }
-        ClosureStop::HostNameClash(name, one, other) => clash_line(alloc, name, one, other),
+        ClosureStop::HostNameClash(name, one, other) => {
+            clash_line(alloc, b"HostNameClash", name, one, other)
+        }
         ClosureStop::SplitNeed(path, name, one, other) => {
             let fields = [bytes(path), name.as_bytes(), bytes(one), bytes(other)];
             line(alloc, b"SplitNeed", fields.as_slice())
@@ -68,9 +113,16 @@ fn stop_line(alloc: Global, stop: &ClosureStop) -> Result<Vec<u8>, Fault> {
     }
 }
 
-fn clash_line(alloc: Global, name: &Name, one: &Abs, other: &Abs) -> Result<Vec<u8>, Fault> {
+/// A line of a name and two paths.
+fn clash_line(
+    alloc: Global,
+    word: &[u8],
+    name: &Name,
+    one: &Abs,
+    other: &Abs,
+) -> Result<Vec<u8>, Fault> {
     let fields = [name.as_bytes(), bytes(one), bytes(other)];
-    line(alloc, b"HostNameClash", fields.as_slice())
+    line(alloc, word, fields.as_slice())
 }
 
 /// The bytes of a path.

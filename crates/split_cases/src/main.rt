@@ -1,5 +1,6 @@
-//! Loads the programs of each case of a document, over files in memory, splits their objects, and
-//! prints the split or the clash where it is otherwise than the case wants.
+//! Loads the programs of each case of a document, over files in memory, splits their objects, names
+//! the libraries, and prints the split or the clash, or the names or the refusal, where they are
+//! otherwise than the case wants.
 #![tactic(auto)]
 
 mod case;
@@ -8,9 +9,9 @@ mod running;
 
 use case::BuildCase;
 use case_rows::Fault;
-use lines::outcome_lines;
+use lines::{layout_lines, outcome_lines};
 use load_files::{Case, cases_of, name_of, names_of, opener_of, setting_of, wanted_text};
-use running::split_of;
+use running::{Outcome, outcome_of};
 use std::alloc::Global;
 use std::io;
 use toml::{Table, Value};
@@ -50,12 +51,24 @@ fn run_case(rt: &HostRuntime, case: &Value) -> io::Result<()> {
     }
 }
 
-/// The lines of a case that wants others.
+/// The lines of a case that wants others, of the split or else of the names.
 fn differing(alloc: Global, value: &Value) -> Result<Option<Vec<u8>>, Fault> {
     let build = BuildCase::of(value)?;
     let case = build.files_alone();
-    let text = answer(alloc, &build, &case)?;
-    let wanted = wanted_text(alloc, &case)?;
+    let outcome = outcome(alloc, &build, &case)?;
+    let text = outcome_lines(alloc, &outcome)?;
+    if let Some(text) = unwanted(alloc, text, &case)? {
+        return Ok(Some(text));
+    }
+    if build.layout.is_empty() {
+        return Ok(None);
+    }
+    unwanted(alloc, layout_lines(alloc, &outcome)?, &build.layout_alone())
+}
+
+/// The text, unless it is the wanted one.
+fn unwanted(alloc: Global, text: Vec<u8>, case: &Case<'_>) -> Result<Option<Vec<u8>>, Fault> {
+    let wanted = wanted_text(alloc, case)?;
     if text.as_slice() == wanted.as_slice() {
         Ok(None)
     } else {
@@ -63,17 +76,16 @@ fn differing(alloc: Global, value: &Value) -> Result<Option<Vec<u8>>, Fault> {
     }
 }
 
-/// Loads the programs of a case and splits all objects.
-fn answer(alloc: Global, build: &BuildCase<'_>, case: &Case<'_>) -> Result<Vec<u8>, Fault> {
+/// Loads the programs of a case, splits all objects and names the libraries.
+fn outcome(alloc: Global, build: &BuildCase<'_>, case: &Case<'_>) -> Result<Outcome, Fault> {
     let mut opener = opener_of(alloc, case)?;
     let setting = setting_of(alloc, case)?;
     let names = names_of(alloc, build.names)?;
-    let answer = split_of(
+    outcome_of(
         alloc,
         &mut opener,
         &setting,
         build.programs,
         names.as_slice(),
-    )?;
-    outcome_lines(alloc, &answer)
+    )
 }

@@ -1,30 +1,80 @@
-//! The load lists of the programs of a case, over one table of faces, and their split.
+//! The load lists of the programs of a case, over one table of faces, their split, and the names of
+//! its libraries.
 
-ghost use Rattle.std.specs.Prelude.{◌≡◌, All, IfOk};
+ghost use Rattle.std.specs.Prelude.{◌≡◌, All, IfOk, Ok};
+ghost use Rattle.std.specs.List.{list_all};
+ghost use Rattle.lib_closure.specs.Splits.{split_of};
 ghost use Rattle.load_model.specs.Opening.{OnlyGrew};
 ghost use Rattle.load_model.specs.Runs.{IsRunOver};
+ghost use Rattle.path_text.specs.FileName.{is_file_name_text};
 
 use crate::case::Started;
 use case_rows::Fault;
 use lib_closure::{ClosureStop, Split, split};
 use load_files::{names_of, path_of};
-use load_model::{Name, Opener, Run, Setting};
+use load_model::{Face, Name, Opener, Run, Setting};
 use load_order::load;
+use name_layout::{Layout, NameStop, name_all};
+use path_text::is_file_name;
 use std::alloc::Global;
 use toml::Value;
 
-/// The split of these programs, by the names of the host list.
-pub fn split_of<P: Opener>(
+/// What the programs of a case come to: a split and the names of its libraries, or a clash.
+#[derive(Drop)]
+pub enum Outcome {
+    Named(Split, Result<Layout, NameStop>),
+    Clash(ClosureStop),
+}
+
+/// What these programs come to, by the names of the host list.
+pub fn outcome_of<P: Opener>(
     alloc: Global,
     opener: &mut P,
     setting: &Setting,
     programs: &[Value],
     names: &[Name],
-) -> Result<Result<Split, ClosureStop>, Fault>
+) -> Result<Outcome, Fault>
     requires { (P.seen opener.old).machine ≡ setting.now.machine }
 {
     let runs = runs_of(alloc, opener, setting, programs)?;
-    Ok(split(alloc, opener.faces(), runs.as_slice(), names))
+    match split(alloc, opener.faces(), runs.as_slice(), names) {
+        Ok(split) => named(alloc, opener.faces(), runs.as_slice(), split, names),
+        Err(stop) => Ok(Outcome::Clash(stop)),
+    }
+}
+
+/// The split with the names of its libraries.
+fn named(
+    alloc: Global,
+    faces: &[Face],
+    runs: &[Run],
+    split: Split,
+    names: &[Name],
+) -> Result<Outcome, Fault>
+    requires runs { All (IsRunOver faces.now) runs.now }
+    requires split { split_of faces.now runs.now names.now ≡ Ok split }
+{
+    if open_file_names(runs) {
+        let layout = name_all(alloc, faces, runs, &split, names);
+        Ok(Outcome::Named(split, layout))
+    } else {
+        Err(Fault::Field("opens"))
+    }
+}
+
+/// Whether all opened names are file names.
+fn open_file_names(runs: &[Run]) -> bool
+    ensures { result ≡ list_all (λ run. list_all is_file_name_text run.opens) runs.now }
+{
+    runs.iter().all(opens_file_names)
+}
+
+/// Whether the opened names of a program are file names.
+fn opens_file_names(run: &Run) -> bool
+    ensures { result ≡ list_all is_file_name_text run.now.opens }
+{
+    let names = run.opens.as_slice();
+    names.iter().all(|name| is_file_name(name.as_bytes()))
 }
 
 /// The load lists of these programs.
