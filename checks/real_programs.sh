@@ -5,6 +5,7 @@ set -u
 cd "$(dirname "$0")/.." || exit 1
 appdir=$PWD/crates/appdir/out/appdir
 hosts='ld-linux-x86-64.so.2 libc.so.6 libm.so.6 libdl.so.2 libpthread.so.0 librt.so.1 libresolv.so.2 libutil.so.1'
+texts='usr/share/appdir/bindings.txt usr/share/appdir/files.txt usr/share/appdir/host.txt'
 # a library of a listed directory that only this check has
 listed=/usr/local/lib/libappdir-check.so.1
 work=$(mktemp -d) || exit 1
@@ -57,12 +58,15 @@ fails_to() {
     fi
 }
 
-# holds_no_file WHAT FOLDER: no file stands in the folder, whole or not.
-holds_no_file() {
-    if [ -z "$(find "$2" ! -type d)" ]; then
-        pass "$1: no file was left"
+# The files below a folder, by their paths there, one a line.
+files_below() { (cd "$1" && find . ! -type d | sed 's|^\./||' | LC_ALL=C sort); }
+
+# holds_no_program WHAT FOLDER: neither AppRun nor a part of a file stands in the folder.
+holds_no_program() {
+    if [ ! -e "$2/AppRun" ] && [ -z "$(find "$2" -name .appdir-unfinished)" ]; then
+        pass "$1: no AppRun and no part of a file was left"
     else
-        fail "$1: left $(find "$2" ! -type d)"
+        fail "$1: left $(files_below "$2" | tr '\n' ' ')"
     fi
 }
 
@@ -76,10 +80,12 @@ packs() {
     are_expected $libraries || { skip "$program needs more than the expected libraries"; return; }
     out=$work/packed$((passed + failed))
     said=$("$appdir" quick "$program" "$out" 2>/dev/null)
-    if [ "$said" != "done: 1 files, 0 bundled, $(echo "$libraries" | wc -l) host libraries" ]; then
+    if [ "$said" != "done: 4 files, 0 bundled, $(echo "$libraries" | wc -l) host libraries" ]; then
         fail "$program: '$said'"
-    elif [ "$(ls -A "$out")" != AppRun ] || ! cmp -s "$program" "$out/AppRun" || [ ! -x "$out/AppRun" ]; then
-        fail "$program: AppRun is not an executable copy, alone in its folder"
+    elif [ "$(files_below "$out" | tr '\n' ' ')" != "AppRun $texts " ]; then
+        fail "$program: the folder has $(files_below "$out" | tr '\n' ' ')"
+    elif ! cmp -s "$program" "$out/AppRun" || [ ! -x "$out/AppRun" ]; then
+        fail "$program: AppRun is no executable copy"
     elif [ "$("$out/AppRun" --version 2>&1)" != "$("$program" --version 2>&1)" ]; then
         fail "$program: AppRun prints another --version"
     else
@@ -185,7 +191,7 @@ if [ -x /usr/bin/true ] && [ "$(stat -L -c %s /usr/bin/true)" -gt 8192 ]; then
     if mount -t tmpfs -o size=16k none "$small" 2>/dev/null; then
         mounted=$small
         fails_to 'a full disk' WriteFailed 4 "$appdir" quick "$program" "$small/out"
-        holds_no_file 'a full disk' "$small"
+        holds_no_program 'a full disk' "$small"
         umount "$small"
         mounted=
     else
@@ -193,7 +199,7 @@ if [ -x /usr/bin/true ] && [ "$(stat -L -c %s /usr/bin/true)" -gt 8192 ]; then
     fi
     # a limit of the size of a file, in blocks of 1,024 bytes
     fails_to 'a limit of size' WriteFailed 4 bash -c 'trap "" XFSZ; ulimit -f 8; exec "$@"' - "$appdir" quick "$program" "$work/limited"
-    holds_no_file 'a limit of size' "$work/limited"
+    holds_no_program 'a limit of size' "$work/limited"
     fails_to 'a file in the place of the folder' WriteFailed 4 "$appdir" quick "$program" "$work/script"
     if [ -w /dev/full ]; then
         # shellcheck disable=SC2016
@@ -216,7 +222,16 @@ make_app() {
         cc -Wl,--enable-new-dtags,-rpath,"\$ORIGIN/lib" -Wl,-rpath-link,"$app/lib" -o "$app/main" "$work/main.c" "$app/lib/libanswer.so.1"
 }
 if make_app 2>/dev/null; then
-    refuses 'a program with a RUNPATH' 'refused 55: not built yet' quick "$app/main" "$work/out"
+    # what is needed beside the program is bundled, and the program runs where it was never built
+    said=$("$appdir" quick "$app/main" "$work/app.AppDir" 2>&1)
+    mv "$work/app.AppDir" "$work/moved" && mv "$app/lib" "$app/elsewhere"
+    if [ "$said" = 'done: 6 files, 2 bundled, 2 host libraries' ] && (cd / && env -i "$work/moved/AppRun") &&
+        [ "$(files_below "$work/moved" | tr '\n' ' ')" = "AppRun usr/lib/libanswer.so.1 usr/lib/libdeep.so.1 $texts " ]; then
+        pass "a program with a RUNPATH: $said, and it runs in another place"
+    else
+        fail "a program with a RUNPATH: '$said', $(files_below "$work/moved" | tr '\n' ' ')"
+    fi
+    mv "$app/elsewhere" "$app/lib"
     rm "$app/lib/libdeep.so.1"
     refuses 'a missing library of a library' "refused 16: missing library libdeep.so.1 needed by $app/lib/libanswer.so.1" quick "$app/main" "$work/out"
     rm "$app/lib/libanswer.so.1"

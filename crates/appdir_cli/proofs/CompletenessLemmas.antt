@@ -34,13 +34,13 @@ full_is_refused : (files : List MemFile) → files ≢ [] → Refused ≡ packin
 full_is_refused [] full = absurd (full refl)
 full_is_refused (file ∷ files) full = refl
 
-module _ (world : World) (command : Command) (folder folder' : View Folder) where
-  done_expects : (answer : Answer) (outcome : Result Answer Refusal) → ComesTo world command (Ok answer) → IsGiven answer folder folder' → ComesTo world command outcome → Expects outcome folder Done
+module _ (world : World) (command : Command) (told : Option World) (folder folder' : View Folder) where
+  done_expects : (answer : Answer) (outcome : Result Answer Refusal) → ComesTo world command (Ok answer) → IsGiven answer told folder folder' → ComesTo world command outcome → Expects outcome folder Done
   done_expects answer (Err refusal) is given comes = absurd (never_both world command answer refusal is comes)
   done_expects (Says text) (Ok (Says other)) is given comes = refl
   done_expects (Says text) (Ok (Packs whole)) is given comes = absurd (one_kind world command text whole is comes)
   done_expects (Packs whole) (Ok (Says text)) is given comes = absurd (one_kind world command text whole comes is)
-  done_expects (Packs whole) (Ok (Packs other)) is given comes = λ held told. sym (ap packing_status (given.empty held told))
+  done_expects (Packs whole) (Ok (Packs other)) is given comes = λ held holds. sym (ap packing_status (given.empty held holds))
 
   decided_expects : (refusal : Refusal) (outcome : Result Answer Refusal) → ComesTo world command (Err refusal) → ComesTo world command outcome → Expects outcome folder Refused
   decided_expects refusal (Err other) is comes = refl
@@ -49,17 +49,17 @@ module _ (world : World) (command : Command) (folder folder' : View Folder) wher
   over_expects : (whole : Whole) (outcome : Result Answer Refusal) → ComesTo world command (Ok (Packs whole)) → IsFull whole folder folder' → ComesTo world command outcome → Expects outcome folder Refused
   over_expects whole (Err refusal) is full comes = absurd (never_both world command (Packs whole) refusal is comes)
   over_expects whole (Ok (Says text)) is full comes = absurd (one_kind world command text whole comes is)
-  over_expects whole (Ok (Packs other)) is full comes = λ held told. full_is_refused held.finished (full.held held told)
+  over_expects whole (Ok (Packs other)) is full comes = λ held holds. full_is_refused held.finished (full.held held holds)
 
 refused_expects : (command : Command) (before after : Outside) (text : List ℕ) (world : World) (outcome : Result Answer Refusal) → IsRefused command before after text → before.tree.told ≡ Some world → ComesTo world command outcome → Expects outcome before.folder Refused
 refused_expects command before after text world outcome refused told comes =
     elim refused.reason [
-      | inl decided ↦ decided_expects world command before.folder after.folder refused.refusal outcome (decided.outcome world told) comes
-      | inr over ↦ over_expects world command before.folder after.folder over.whole outcome (over.outcome world told) over.full comes
+      | inl decided ↦ decided_expects world command before.tree.told before.folder after.folder refused.refusal outcome (decided.outcome world told) comes
+      | inr over ↦ over_expects world command before.tree.told before.folder after.folder over.whole outcome (over.outcome world told) over.full comes
     ]
 
 complete_for : (command : Command) (before after : Outside) (status : Status) → EndsFor command before after status → IsComplete (Some command) before after status
-complete_for command before after Done h = λ world outcome told comes clean. inl (done_expects world command before.folder after.folder h.1.answer outcome (h.1.outcome world told) h.1.given comes)
+complete_for command before after Done h = λ world outcome told comes clean. inl (done_expects world command before.tree.told before.folder after.folder h.1.answer outcome (h.1.outcome world told) h.1.given comes)
 complete_for command before after Refused h = λ world outcome told comes clean. inl (refused_expects command before after h.0 world outcome h.1 told comes)
 complete_for command before after Usage h = absurd h
 complete_for command before after ReadFailed h = λ world outcome told comes clean. absurd (clean.tree h.0)

@@ -1,58 +1,83 @@
 -- What showing a program comes to, from its steps; and it is one of its outcomes alone.
-use Rattle.std.proofs.Common.{ℕ, List, [], ◌∷◌, ◌≡◌, ap, refl, subst, map, length, Result, Ok, Err}
-use Rattle.std.proofs.lemmas.List.{length-map}
+use Rattle.std.proofs.Common.{ℕ, List, [], ◌∷◌, ◌++◌, ◌≡◌, All, refl, sym, subst, ap, ◌∙◌, Option, Some, None, Result, Ok, Err, IfOk, IfSome}
+use Rattle.std.proofs.lemmas.List.Elements.{All-head, All-tail}
+use Rattle.std.specs.Option.{option_to_list}
 use Rattle.answers.specs.Told.{WhereTold}
+use Rattle.app_config.specs.Settings.{setting_of}
+use Rattle.build_plan.specs.Refusals.{stop_of_loads}
+use Rattle.build_plan.specs.Steps.{IsStepAnswer}
+use Rattle.build_plan.specs.declared.stops.BuildStop.{BuildStop}
+use Rattle.build_runs.proofs.LawLemmas.{runs_or_stop}
+use Rattle.build_runs.specs.Answering.{IsLoadsAnswer}
+use Rattle.build_runs.specs.BuildRuns.{AreRuns}
+use Rattle.build_runs.specs.FirstStops.{IsFirstStop}
+use Rattle.build_runs.specs.declared.loading.LoadedRuns.{LoadedRuns}
+use Rattle.build_runs.specs.declared.programs.Program.{Program}
+use Rattle.build_runs.specs.declared.stops.LoadsStop.{LoadsStop}
+use Rattle.build_runs.specs.declared.stops.LoadsStop.TheVariants.{Refused, Read, NoMemory}
+use Rattle.deliveries.specs.declared.answer.Answer.{Answer}
+use Rattle.deliveries.specs.declared.answer.Answer.TheVariants.{Says}
+use Rattle.load_model.specs.Runs.{IsRunOver}
 use Rattle.load_model.specs.World.{World}
-use Rattle.load_model.specs.declared.runs.Replay.{Replay}
+use Rattle.load_model.specs.declared.faces.Face.{Face}
+use Rattle.load_model.specs.declared.runs.Run.{Run}
 use Rattle.load_model.specs.declared.setting.Setting.{Setting}
 use Rattle.ports.specs.View.{View}
 use Rattle.refusals.specs.declared.refusal.Refusal.{Refusal}
-use Rattle.refusals.specs.declared.refusal.Refusal.TheVariants.{Load, NotBuilt, NotEmpty}
-use Rattle.load_model.proofs.SameListLemmas.{met_or_refused}
-use Rattle.appdir_cli.specs.Loading.{LoadsAs}
-use Rattle.appdir_cli.specs.Settings.{setting_of}
-use Rattle.bind_report.specs.Places.{no_places}
-use Rattle.appdir_cli.specs.Showing.{IsSaidOf, IsShown, Shows, ShowsIn, replay_of}
-use Rattle.appdir_cli.specs.Steps.{IsStepAnswer}
-use Rattle.deliveries.specs.declared.answer.Answer.{Answer}
-use Rattle.deliveries.specs.declared.answer.Answer.TheVariants.{Says, Packs}
-use Rattle.appdir_cli.specs.declared.stops.Stop.{Stop}
-use Rattle.appdir_cli.specs.declared.stops.Stop.TheVariants.{Refused, Read, NoMemory}
-use Rattle.appdir_cli.specs.declared.loading.LoadedProgram.{LoadedProgram}
+use Rattle.refusals.specs.declared.refusal.Refusal.TheVariants.{Load, Split, Names, Rewrite, Files, Folder}
+use Rattle.appdir_cli.specs.Showing.{IsShown, Shows, ShowsIn, shown_program, shown_text}
 use Rattle.appdir_cli.specs.declared.words.Show.{Show}
 
 pub shown_or_refused : (world : World) (command : Show) (text : List ℕ) (refusal : Refusal) → IsShown (setting_of command.dirs) world command.program text → Shows world command (Err refusal) → ⊥
 shown_or_refused world command text (Load refusal) shown refused =
-    met_or_refused (setting_of command.dirs) world command.program shown.replays.loads.loaded shown.replays.loads.ends shown.faces shown.replay.run refusal shown.replays.loads.list shown.replays.loads.run_is shown.replays.met refused
-shown_or_refused world command text NotBuilt shown refused = refused
-shown_or_refused world command text (NotEmpty place) shown refused = refused
+    runs_or_stop (setting_of command.dirs) world (shown_program command.program ∷ []) shown.faces (shown.run ∷ []) refusal shown.loads refused
+shown_or_refused world command text (Split refusal) shown refused = refused
+shown_or_refused world command text (Names refusal) shown refused = refused
+shown_or_refused world command text (Rewrite refusal) shown refused = refused
+shown_or_refused world command text (Files refusal) shown refused = refused
+shown_or_refused world command text (Folder refusal) shown refused = refused
+
+-- ---- the last of the runs, which is the one run where there is one
+
+pub last_is : (runs front : List Run) (last : Option Run) → runs ≡ front ++ option_to_list last → IfSome last (λ run. (before : List Run) × (runs ≡ before ++ run ∷ []))
+last_is runs front (Some run) e = (front, e)
+last_is runs front None e = tt
+
+all_last : (P : Run → Type 0) (front : List Run) (run : Run) → All P (front ++ run ∷ []) → P run
+all_last P [] run h = All-head P run [] h
+all_last P (r ∷ front) run h = all_last P front run (All-tail P r (front ++ run ∷ []) h)
+
+pub last_over : (faces : List Face) (runs front : List Run) (run : Run) → runs ≡ front ++ run ∷ [] → All (IsRunOver faces) runs → IsRunOver faces run
+last_over faces runs front run e h = all_last (IsRunOver faces) front run (subst (λ (l : List Run). All (IsRunOver faces) l) e h)
+
+one_last : (front : List Run) (run only : Run) → front ++ run ∷ [] ≡ only ∷ [] → run ≡ only
+one_last [] run only e = cc
+one_last (r ∷ []) run only e = absurd (cc)
+one_last (r ∷ s ∷ front) run only e = absurd (cc)
+
+pub text_said : {E : Type 0} (faces : List Face) (runs front : List Run) (run : Run) (result : Result (List ℕ) E) → runs ≡ front ++ run ∷ [] → IfOk result (λ text. text ≡ shown_text faces run) → IfOk result (λ text. (only : Run) → runs ≡ only ∷ [] → text ≡ shown_text faces only)
+text_said faces runs front run (Ok text) e h = λ only one. h ∙ ap (shown_text faces) (one_last front run only (sym e ∙ one))
+text_said faces runs front run (Err error) e h = tt
+
+-- ---- from loading
 
 -- a program that is not loaded ends the command
-pub loading_stops : (setting : Setting) (before after : View World) (path : List ℕ) (stop : Stop) → IsStepAnswer {A = LoadedProgram} before after (λ world outcome. LoadsAs setting world path outcome) (Err stop) → IsStepAnswer {A = Answer} before after (λ world outcome. ShowsIn setting world path outcome) (Err stop)
-loading_stops setting before after path (Refused (Load refusal)) h = h
-loading_stops setting before after path (Refused NotBuilt) h = h
-loading_stops setting before after path (Refused (NotEmpty place)) h = h
-loading_stops setting before after path Read h = h
-loading_stops setting before after path NoMemory h = h
+pub loading_stops : (setting : Setting) (before after : View World) (path : List ℕ) (programs : List Program) (stop : LoadsStop) → programs ≡ shown_program path ∷ [] → IsLoadsAnswer setting before after programs (Err stop) → IsStepAnswer {A = Answer} before after (λ world outcome. ShowsIn setting world path outcome) (Err (stop_of_loads stop))
+loading_stops setting before after path programs (Refused refusal) e h = λ world told. subst (λ (l : List Program). IsFirstStop setting world l refusal) e (h world told)
+loading_stops setting before after path programs Read e h = h
+loading_stops setting before after path programs NoMemory e h = tt
 
--- what is said of the program that was loaded is said of the world's
-pub said : (setting : Setting) (before after : View World) (path : List ℕ) (loaded : LoadedProgram) (result : Result Answer Stop) → WhereTold before.told (λ world. LoadsAs setting world path (Ok loaded)) → IsSaidOf loaded result → IsStepAnswer before after (λ world outcome. ShowsIn setting world path outcome) result
-said setting before after path loaded (Ok (Says text)) there h = λ world told.
-    let loads : LoadsAs setting world path (Ok loaded) = there world told in
-    record {
-      faces = loaded.faces;
-      replay = replay_of loaded;
-      replays = record { loads = loads.loads; met = loads.met; binds = refl };
-      text_is = h;
-    }
-said setting before after path loaded (Ok (Packs whole)) there h = absurd h
-said setting before after path loaded (Err (Refused refusal)) there h = absurd h
-said setting before after path loaded (Err Read) there h = absurd h
-said setting before after path loaded (Err NoMemory) there h = tt
+module _ (setting : Setting) (world : World) (path text : List ℕ) (faces : List Face) where
+  shown_one : (runs : List Run) → AreRuns setting world (shown_program path ∷ []) faces runs → ((run : Run) → runs ≡ run ∷ [] → text ≡ shown_text faces run) → IsShown setting world path text
+  shown_one [] are said = absurd are.each
+  shown_one (run ∷ []) are said = record { faces = faces; run = run; loads = are; text_is = said run refl }
+  shown_one (run ∷ other ∷ runs) are said = absurd are.each.1
+
+-- what is said of the run that was loaded is said of the world's
+pub shown : (setting : Setting) (before after : View World) (path : List ℕ) (programs : List Program) (loaded : LoadedRuns) (text : List ℕ) → programs ≡ shown_program path ∷ [] → IsLoadsAnswer setting before after programs (Ok loaded) → ((run : Run) → loaded.runs ≡ run ∷ [] → text ≡ shown_text loaded.table.faces run) → IsStepAnswer {A = Answer} before after (λ world outcome. ShowsIn setting world path outcome) (Ok (Says text))
+shown setting before after path programs loaded text e h said = λ world told.
+    shown_one setting world path text loaded.table.faces loaded.runs (subst (λ (l : List Program). AreRuns setting world l loaded.table.faces loaded.runs) e (h world told)) said
 
 -- one setting is that of the command
-pub shown_there : (setting : Setting) (before after : View World) (command : Show) (result : Result Answer Stop) → setting ≡ setting_of command.dirs → IsStepAnswer before after (λ world outcome. ShowsIn setting world command.program outcome) result → IsStepAnswer before after (λ world outcome. Shows world command outcome) result
+pub shown_there : (setting : Setting) (before after : View World) (command : Show) (result : Result Answer BuildStop) → setting ≡ setting_of command.dirs → IsStepAnswer before after (λ world outcome. ShowsIn setting world command.program outcome) result → IsStepAnswer before after (λ world outcome. Shows world command outcome) result
 shown_there setting before after command result is h = subst (λ (s : Setting). IsStepAnswer before after (λ world outcome. ShowsIn s world command.program outcome) result) is h
-
-pub one_list : (replay : Replay) → map length (no_places replay.run.objs ∷ []) ≡ map (λ (r : Replay). length r.run.objs) (replay ∷ [])
-one_list replay = ap (λ n. n ∷ []) (length-map replay.run.objs _)

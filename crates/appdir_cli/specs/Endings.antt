@@ -7,7 +7,7 @@ use Rattle.ports.specs.declared.folders.MemFile.{MemFile}
 use Rattle.ports.specs.Folder.{Folder}
 use Rattle.ports.specs.View.{View, Stays}
 use Rattle.appdir_cli.specs.ComesTo.{ComesTo}
-use Rattle.deliveries.specs.Delivery.{IsCutOff, IsFull, IsWhole}
+use Rattle.deliveries.specs.Delivery.{IsCutOff, IsCutShort, IsFull, IsWhole}
 use Rattle.refusals.specs.Lines.{refusal_line, usage_text}
 use Rattle.deliveries.specs.Saying.{Took, TookPart}
 use Rattle.deliveries.specs.declared.answer.Answer.{Answer}
@@ -15,7 +15,8 @@ use Rattle.deliveries.specs.declared.answer.Answer.TheVariants.{Says, Packs}
 use Rattle.deliveries.specs.declared.answer.Whole.{Whole}
 use Rattle.appdir_cli.specs.declared.words.Command.{Command}
 use Rattle.refusals.specs.declared.refusal.Refusal.{Refusal}
-use Rattle.refusals.specs.declared.refusal.Refusal.TheVariants.{NotEmpty}
+use Rattle.refusals.specs.declared.folder_refusal.FolderRefusal.TheVariants.{NotEmpty}
+use Rattle.refusals.specs.declared.refusal.Refusal.TheVariants.{Folder as RefusesFolder}
 use Rattle.deliveries.specs.declared.status.Status.{Status}
 use Rattle.deliveries.specs.declared.status.Status.TheVariants.{Done, Refused, Usage, ReadFailed, WriteFailed, NoMemory, PrintFailed}
 
@@ -37,17 +38,18 @@ abbrev pub answer_text : Answer → List ℕ
 answer_text (Says text) = text
 answer_text (Packs whole) = whole.line
 
--- A text leaves the folder as it was, and files are whole in it.
-abbrev pub IsGiven : Answer → View Folder → View Folder → Type 0
-IsGiven (Says text) before after = Stays before after
-IsGiven (Packs whole) before after = IsWhole whole before after
+-- A text leaves the folder as it was, and files are whole in it, with what the tree tells of those
+-- that are copied.
+abbrev pub IsGiven : Answer → Option World → View Folder → View Folder → Type 0
+IsGiven (Says text) told before after = Stays before after
+IsGiven (Packs whole) told before after = IsWhole told whole before after
 
 -- The command is done, and this text says so.
 pub record IsDone (command : Command) (before after : Outside) (text : List ℕ) : Type 0 where
   pub answer : Answer
   pub outcome : IsOutcome command before (Ok answer)
   pub line : text ≡ answer_text answer
-  pub given : IsGiven answer before.folder after.folder
+  pub given : IsGiven answer before.tree.told before.folder after.folder
 
 -- The command comes to this refusal, and the folder is as it was.
 pub record IsDecided (command : Command) (before after : Outside) (refusal : Refusal) : Type 0 where
@@ -58,7 +60,7 @@ pub record IsDecided (command : Command) (before after : Outside) (refusal : Ref
 pub record IsOver (command : Command) (before after : Outside) (refusal : Refusal) : Type 0 where
   pub whole : Whole
   pub outcome : IsOutcome command before (Ok (Packs whole))
-  pub not_empty : refusal ≡ NotEmpty whole.place
+  pub not_empty : refusal ≡ RefusesFolder (NotEmpty whole.place)
   pub full : IsFull whole before.folder after.folder
 
 -- The command is refused, and this text says why.
@@ -71,7 +73,14 @@ pub record IsRefused (command : Command) (before after : Outside) (text : List �
 pub record IsUnwritten (command : Command) (before after : Outside) : Type 0 where
   pub whole : Whole
   pub outcome : IsOutcome command before (Ok (Packs whole))
-  pub cut_off : IsCutOff whole before.folder after.folder
+  pub cut_off : IsCutOff before.tree.told whole before.folder after.folder
+  pub silent : Stays before.sink after.sink
+
+-- A fault of the tree ended the writing.
+pub record IsUnread (command : Command) (before after : Outside) : Type 0 where
+  pub whole : Whole
+  pub outcome : IsOutcome command before (Ok (Packs whole))
+  pub cut_short : IsCutShort before.tree.told whole before.folder after.folder
   pub silent : Stays before.sink after.sink
 
 -- Nothing was begun in the folder, and nothing was said.
@@ -92,7 +101,8 @@ abbrev pub EndsFor : Command → Outside → Outside → Status → Type 0
 EndsFor command before after Done = IsEnded (IsDone command before after) before after
 EndsFor command before after Refused = IsEnded (IsRefused command before after) before after
 EndsFor command before after ReadFailed =
-    Rose before.tree.faults after.tree.faults × IsUntouched before after
+    Rose before.tree.faults after.tree.faults
+    × (IsUntouched before after ⊎ IsUnread command before after)
 EndsFor command before after WriteFailed = IsUnwritten command before after
 EndsFor command before after NoMemory = IsUntouched before after
 EndsFor command before after PrintFailed =

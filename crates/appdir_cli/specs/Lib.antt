@@ -1,10 +1,6 @@
 pub mod ComesTo
 pub mod Endings
-pub mod Loading
 pub mod Packing
-pub mod Settings
 pub mod Showing
-pub mod Steps
-pub mod Stops
 pub mod TwoWorlds
 pub mod Words

@@ -6,7 +6,7 @@ use Rattle.std.specs.Result.{result_ok}
 use Rattle.std.specs.Str.{bytes_eq}
 use Rattle.path_text.specs.Path.{path_of}
 use Rattle.path_text.specs.FileName.{is_file_name_text}
-use Rattle.appdir_cli.specs.Settings.{default_dirs}
+use Rattle.app_config.specs.Settings.{default_dirs}
 use Rattle.appdir_cli.specs.declared.words.Command.{Command}
 use Rattle.appdir_cli.specs.declared.words.Command.TheVariants.{Quick as AsksQuick, Show as AsksShow}
 use Rattle.appdir_cli.specs.declared.words.Quick.{Quick}
@@ -25,26 +25,10 @@ is_unshaped (c ∷ word) = c == 45
 abbrev pub path_told : List ℕ → Option (List ℕ)
 path_told text = result_ok (path_of text)
 
-abbrev pub default_names_list : List (List ℕ)
-default_names_list =
-    codes "ld-linux-x86-64.so.2" ∷
-    codes "libc.so.6" ∷
-    codes "libm.so.6" ∷
-    codes "libdl.so.2" ∷
-    codes "libpthread.so.0" ∷
-    codes "librt.so.1" ∷
-    codes "libresolv.so.2" ∷
-    codes "libutil.so.1" ∷ []
-
--- The words NAME, or the default names where there are none.
-abbrev pub names_of : List (List ℕ) → List (List ℕ)
-names_of [] = default_names_list
-names_of (name ∷ names) = name ∷ names
-
 abbrev pub quick_with : Option (List ℕ) → Option (List ℕ) → List (List ℕ) → Option Quick
 quick_with (Some p) (Some o) ns =
     cond (list_all is_file_name_text ns)
-    (Some (record { program = p; out = o; names = names_of ns })) None
+    (Some (record { program = p; out = o; names = ns })) None
 quick_with _ _ ns = None
 
 -- The shape PROGRAM OUT [NAME ..].

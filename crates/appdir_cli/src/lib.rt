@@ -1,12 +1,9 @@
 //! The command line of the AppDir builder: words in, an answer and an AppDir out.
 #![tactic(auto)]
 
-mod loading;
 mod obeying;
 mod packing;
-mod settings;
 mod showing;
-mod stops;
 mod top;
 mod words;
 

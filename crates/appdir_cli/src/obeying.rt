@@ -1,24 +1,26 @@
 //! Doing what a command asks for: what it comes to, and then its text or its files. Definitions:
 //! `specs/ComesTo.antt` and `specs/Endings.antt`.
 
-ghost use Rattle.std.specs.Prelude.{◌≤◌};
+ghost use Rattle.std.specs.Prelude.{◌≤◌, IfOk};
 ghost use Rattle.appdir_cli.specs.ComesTo.{ComesTo};
 ghost use Rattle.appdir_cli.specs.Endings.{EndsFor, outside};
-ghost use Rattle.appdir_cli.specs.Steps.{IsStepAnswer};
+ghost use Rattle.build_plan.specs.Steps.{IsStepAnswer};
+ghost use Rattle.deliveries.specs.Delivery.{IsAnswerProbed};
 ghost use Rattle.ports.specs.View.{OnlyReads};
 
 use crate::packing::quick;
 use crate::showing::show;
-use crate::stops::Stop;
 use crate::words::Command;
+use appdir_build::BuildStop;
 use deliveries::{Answer, Status, give, refuse};
 use ports::{OutDir, Sink, Tree};
 use std::alloc::Global;
 
 /// What the command comes to.
-fn answer<T: Tree>(alloc: Global, tree: &mut T, command: &Command) -> Result<Answer, Stop>
+fn answer<T: Tree>(alloc: Global, tree: &mut T, command: &Command) -> Result<Answer, BuildStop>
     ensures answer { IsStepAnswer (T.seen tree.old) (T.seen tree.new)
         (λ world outcome. ComesTo world command.now outcome) result }
+    ensures probed { IfOk result (IsAnswerProbed (T.seen tree.old).told) }
     ensures only_reads { OnlyReads (T.seen tree.old) (T.seen tree.new) }
 {
     match command {
@@ -43,9 +45,9 @@ pub fn obey<T: Tree, O: OutDir, S: Sink>(
     ensures sink_faults { (S.seen sink.old).faults ≤ (S.seen sink.new).faults }
 {
     match answer(alloc, tree, command) {
-        Ok(given) => give(alloc, &given, out, sink),
-        Err(Stop::Refused(refusal)) => refuse(alloc, &refusal, sink),
-        Err(Stop::Read) => Status::ReadFailed,
-        Err(Stop::NoMemory) => Status::NoMemory,
+        Ok(given) => give(alloc, &given, tree, out, sink),
+        Err(BuildStop::Refused(refusal)) => refuse(alloc, &refusal, sink),
+        Err(BuildStop::Read) => Status::ReadFailed,
+        Err(BuildStop::NoMemory) => Status::NoMemory,
     }
 }

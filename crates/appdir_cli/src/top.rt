@@ -5,7 +5,7 @@ ghost use Rattle.std.specs.Prelude.{◌≡◌, ◌≤◌};
 ghost use Rattle.answers.specs.Told.{WhereTold};
 ghost use Rattle.ports.specs.View.{OnlyReads};
 ghost use Rattle.appdir_cli.specs.Endings.{Ends, IsComplete, outside};
-ghost use Rattle.appdir_cli.specs.TwoWorlds.{IsPortable, RunsAlike};
+ghost use Rattle.appdir_cli.specs.TwoWorlds.{RunsAlike};
 ghost use Rattle.appdir_cli.specs.Words.{command_of, texts};
 
 use crate::obeying::obey;
@@ -32,8 +32,6 @@ pub fn appdir_main<T: Tree, O: OutDir, S: Sink>(
         (outside (T.seen tree.new) (O.seen out.new) (S.seen sink.new)) result }
     ensures two_worlds { WhereTold (T.seen tree.old).told
         (λ world. RunsAlike (command_of (texts words.now)) world) }
-    ensures portable { result ≡ Status.Done → WhereTold (T.seen tree.old).told (λ world.
-        IsPortable (command_of (texts words.now)) world (O.seen out.old) (O.seen out.new)) }
     ensures only_reads { OnlyReads (T.seen tree.old) (T.seen tree.new) }
     ensures folder_faults { (O.seen out.old).faults ≤ (O.seen out.new).faults }
     ensures sink_faults { (S.seen sink.old).faults ≤ (S.seen sink.new).faults }

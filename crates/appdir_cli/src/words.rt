@@ -1,16 +1,15 @@
 ghost use Rattle.std.specs.Prelude.{◌≡◌, [], ◌∷◌, ◌++◌, IfOk, MatchOption, OnOk, string_bytes};
 ghost use Rattle.std.specs.List.{list_all, list_any};
 ghost use Rattle.path_text.specs.FileName.{is_file_name_text};
-ghost use Rattle.appdir_cli.specs.Words.{command_of, default_names_list, dirs_of, is_unshaped, names_of, path_told, paths_told, quick_asked, quick_of, quick_with, shape_of, show_asked, show_of, show_with, texts};
+ghost use Rattle.appdir_cli.specs.Words.{command_of, dirs_of, is_unshaped, path_told, paths_told, quick_asked, quick_of, quick_with, shape_of, show_asked, show_of, show_with, texts};
 
-use crate::settings::default_dirs;
+use app_config::default_dirs;
 use load_model::{List, Name};
 use path_text::{Abs, NoMemory, PathFault, is_file_name};
 use std::alloc::Global;
 
-/// `quick PROGRAM OUT [NAME ..]`: pack one program without a desktop entry. `names` are the
-/// libraries that every host is expected to have: the words NAME, or the default names where none
-/// is given.
+/// `quick PROGRAM OUT [NAME ..]`: pack one program without a desktop entry. `names` are the words
+/// NAME: the libraries that every host is expected to have, where any are given.
 #[derive(Drop)]
 pub struct Quick {
     pub program: Abs,
@@ -221,16 +220,6 @@ fn read_path(alloc: Global, text: &[u8]) -> Result<Option<Abs>, NoMemory>
 }
 
 fn read_names(alloc: Global, words: &[String]) -> Result<List<Name>, NoMemory>
-    ensures { IfOk result (λ names. names ≡ names_of (texts words.now)) }
-{
-    if words.is_empty() {
-        default_names(alloc)
-    } else {
-        copied_names(alloc, words)
-    }
-}
-
-fn copied_names(alloc: Global, words: &[String]) -> Result<List<Name>, NoMemory>
     ensures { IfOk result (λ names. names ≡ texts words.now) }
 {
     let mut names = no_names(alloc);
@@ -238,29 +227,6 @@ fn copied_names(alloc: Global, words: &[String]) -> Result<List<Name>, NoMemory>
         push_text(alloc, &mut names, word.as_str())?;
     }
     Ok(names)
-}
-
-/// The libraries that every host is expected to have, where the words name none.
-fn default_names(alloc: Global) -> Result<List<Name>, NoMemory>
-    ensures { IfOk result (λ names. names ≡ default_names_list) }
-{
-    let mut names = no_names(alloc);
-    push_default_names(alloc, &mut names)?;
-    Ok(names)
-}
-
-fn push_default_names(alloc: Global, names: &mut List<Name>) -> Result<(), NoMemory>
-    requires { names.old ≡ [] }
-    ensures { OnOk result (names.new ≡ default_names_list) }
-{
-    push_text(alloc, names, "ld-linux-x86-64.so.2")?;
-    push_text(alloc, names, "libc.so.6")?;
-    push_text(alloc, names, "libm.so.6")?;
-    push_text(alloc, names, "libdl.so.2")?;
-    push_text(alloc, names, "libpthread.so.0")?;
-    push_text(alloc, names, "librt.so.1")?;
-    push_text(alloc, names, "libresolv.so.2")?;
-    push_text(alloc, names, "libutil.so.1")
 }
 
 /// Adds a text at the end of names that are all texts.

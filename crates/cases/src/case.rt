@@ -205,12 +205,25 @@ impl<'a> Wants<'a> {
     }
 }
 
-/// A finished file: its path, mark and length, and what is to be said of its bytes.
+/// The names of a wanted file's fields.
+const FILE_FIELDS: [&str; 7] = [
+    "path",
+    "executable",
+    "length",
+    "text",
+    "hex",
+    "bytes_of",
+    "pieces",
+];
+
+/// A finished file: its path and mark, and what is to be said of its bytes, if anything.
 #[derive(Clone, Copy)]
 pub struct WantedFile<'a> {
     pub path: &'a str,
     pub executable: bool,
-    pub length: u64,
+    pub length: Option<u64>,
+    /// The whole text.
+    pub text: Option<&'a str>,
     /// All its bytes.
     pub hex: Option<&'a str>,
     /// The path of a file of the tree that has the same bytes.
@@ -221,12 +234,12 @@ pub struct WantedFile<'a> {
 
 impl<'a> WantedFile<'a> {
     pub fn of(value: &'a Value) -> Result<WantedFile<'a>, Fault> {
-        let names = ["path", "executable", "length", "hex", "bytes_of", "pieces"];
-        let row = Row::of(value, names.as_slice())?;
+        let row = Row::of(value, FILE_FIELDS.as_slice())?;
         Ok(WantedFile {
             path: row.text("path")?,
             executable: row.flag("executable")?,
-            length: row.number("length")?,
+            length: row.number_if_any("length")?,
+            text: row.text_if_any("text")?,
             hex: row.text_if_any("hex")?,
             bytes_of: row.text_if_any("bytes_of")?,
             pieces: row.list("pieces")?,

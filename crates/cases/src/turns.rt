@@ -57,32 +57,40 @@ fn status_of(method: Method) -> Status {
     }
 }
 
-/// The root that is opened before a call of this method.
-fn root_before<'a>(case: &Case<'a>, method: Method) -> Option<&'a str> {
-    match method {
-        Method::Probe | Method::ReadAt | Method::Root => None,
-        Method::Begin | Method::Append | Method::Finish | Method::Put => case.wants.root,
-    }
-}
-
 /// Whether a failing call ends a case as it may: with the status of its object, nothing printed,
-/// the wanted root opened unless it failed before, and of the wanted files only those from before
-/// where the tree failed, not all where the folder did, and all where the sink did.
+/// and with the root and the files that there are at such a call.
 fn is_cut_off(
     alloc: Global,
     case: &Case<'_>,
     method: Method,
     ending: &Ending,
 ) -> Result<bool, Fault> {
-    let (status, count) = (status_of(method), ending.finished().len());
-    let (before, wanted) = (case.finished.len(), case.wants.finished.len());
-    let is_count = match status {
-        Status::ReadFailed => count == before,
-        Status::WriteFailed => count == before || count < wanted,
-        _ => count == wanted,
-    };
     let is_silent = ending.outside.sink.bytes().is_empty();
-    let is_root = is_root(ending.roots(case), root_before(case, method));
-    let are_parts = ending.status == status && is_silent && is_count && is_root;
-    Ok(are_parts && are_first_wanted(alloc, case, ending.finished())?)
+    let is_ended = ending.status == status_of(method) && is_silent;
+    let is_place = match method {
+        Method::Probe | Method::Root => is_before_root(case, ending),
+        Method::ReadAt => is_before_root(case, ending) || is_amid_files(case, ending),
+        Method::Begin | Method::Append | Method::Finish => is_amid_files(case, ending),
+        Method::Put => is_behind_files(case, ending),
+    };
+    Ok(is_ended && is_place && are_first_wanted(alloc, case, ending.finished())?)
+}
+
+/// Whether no root was opened, and no file was finished. What is loaded and what is rewritten is
+/// read by then.
+fn is_before_root(case: &Case<'_>, ending: &Ending) -> bool {
+    is_root(ending.roots(case), None) && ending.finished().len() == case.finished.len()
+}
+
+/// Whether the wanted root was opened, and not all files were finished, so that the last of them,
+/// the program, was not. What is copied is read then.
+fn is_amid_files(case: &Case<'_>, ending: &Ending) -> bool {
+    is_root(ending.roots(case), case.wants.root)
+        && ending.finished().len() < case.wants.finished.len()
+}
+
+/// Whether the wanted root was opened, and all files were finished.
+fn is_behind_files(case: &Case<'_>, ending: &Ending) -> bool {
+    is_root(ending.roots(case), case.wants.root)
+        && ending.finished().len() == case.wants.finished.len()
 }

@@ -79,15 +79,31 @@ fn is_wanted(
     wanted: &WantedFile<'_>,
 ) -> Result<bool, Fault> {
     let bytes = file.bytes.as_bytes();
-    let is_same = file.path.as_str() == wanted.path
-        && file.executable == wanted.executable
-        && bytes.len() as u64 == wanted.length;
+    let is_placed = file.path.as_str() == wanted.path && file.executable == wanted.executable;
     Ok(
-        is_same
+        is_placed
+            && is_length(bytes, wanted.length)
+            && is_text(bytes, wanted.text)
             && is_hex(alloc, bytes, wanted.hex)?
             && is_copy(alloc, case, bytes, wanted.bytes_of)?
             && has_pieces(alloc, bytes, wanted.pieces)?,
     )
+}
+
+/// Whether there are as many bytes as there are to be, if that is said.
+fn is_length(bytes: &[u8], length: Option<u64>) -> bool {
+    match length {
+        Some(length) => bytes.len() as u64 == length,
+        None => true,
+    }
+}
+
+/// Whether bytes are a text, if there is one.
+fn is_text(bytes: &[u8], text: Option<&str>) -> bool {
+    match text {
+        Some(text) => bytes == text.as_bytes(),
+        None => true,
+    }
 }
 
 /// Whether bytes are those that digits say, if there are any.

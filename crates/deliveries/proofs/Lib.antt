@@ -1,2 +1,1 @@
 pub mod DeliveryLemmas
-pub mod FolderLemmas

@@ -6,7 +6,6 @@ mod answer;
 mod delivering;
 mod saying;
 mod status;
-mod writing;
 
 pub use answer::{Answer, Whole};
 pub use delivering::give;

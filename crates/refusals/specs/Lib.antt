@@ -1,2 +1,10 @@
 pub mod Damage
+pub mod Fields
+pub mod FileRefusal
+pub mod FolderRefusal
 pub mod Lines
+pub mod LoadRefusal
+pub mod NameRefusal
+pub mod RewriteRefusal
+pub mod SplitRefusal
+pub mod Tables

@@ -1,5 +1,7 @@
 //! The numbers of the refusals.
 
+pub const NO_ROOM: u8 = 9;
+
 pub const NO_PROGRAM: u8 = 10;
 
 pub const DAMAGED: u8 = 11;
@@ -20,6 +22,44 @@ pub const VERSION_FILE_UNLOADED: u8 = 18;
 
 pub const UNSATISFIED_VERSION: u8 = 19;
 
+pub const NO_INTERPRETER: u8 = 20;
+
+pub const INTERPRETER_UNLISTED: u8 = 21;
+
+pub const PROGRAM_NEEDED: u8 = 22;
+
+pub const HOST_NAME_CLASH: u8 = 23;
+
+pub const HOST_RPATH: u8 = 24;
+
+pub const HOST_NEEDS_UNLISTED: u8 = 25;
+
+pub const HOST_ALIAS: u8 = 26;
+
+pub const SPLIT_NEED: u8 = 27;
+
+pub const OPEN_ALIAS: u8 = 28;
+
+pub const OPEN_NAME_ON_HOST_LIST: u8 = 29;
+
+pub const TWO_OPEN_NAMES: u8 = 30;
+
+pub const NAME_CLASH: u8 = 31;
+
+pub const BAD_FILE_NAME: u8 = 32;
+
+pub const TABLE_OVERLAP: u8 = 34;
+
+pub const TOO_MANY_HEADERS: u8 = 35;
+
+pub const TOO_LARGE: u8 = 36;
+
+pub const STRINGS_TOO_LONG: u8 = 37;
+
+pub const TARGET_CLASH: u8 = 47;
+
+pub const TARGET_IN_LIB: u8 = 48;
+
 pub const NOT_EMPTY: u8 = 49;
 
-pub const NOT_BUILT: u8 = 55;
+pub const FILE_CHANGED: u8 = 56;

@@ -29,7 +29,7 @@ where_some : (a b : Bool) → (not a || b) ≡ true → a ≡ true → b ≡ tru
 where_some true b h e = h
 where_some false b h e = absurd (cc)
 
-fits_face : (change : Change) (face : Face) → is_fitting change face ≡ true → FitsFace change face
+pub fits_face : (change : Change) (face : Face) → is_fitting change face ≡ true → FitsFace change face
 fits_face change face h =
     let a = both (length change.needs == length face.needs) _ h in
     let b = both (length change.files == length face.asks) _ a.1 in
@@ -50,6 +50,3 @@ fits_face change face h =
       soname_text = g.0;
       path_text = g.1;
     }
-
-pub fits_it : (change : Change) (face : Face) (b : List ℕ) → face ≡ face_of b → is_fitting change face ≡ true → Fits change b
-fits_it change face b same h = face_fits change face b same (fits_face change face h)

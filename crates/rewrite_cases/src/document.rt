@@ -7,12 +7,13 @@ use std::alloc::Global;
 use toml::{Table, Value};
 
 /// The names of a case's fields.
-const CASE: [&str; 9] = [
-    "name", "shape", "changes", "needs", "soname", "runpath", "files", "pieces", "wants",
+const CASE: [&str; 11] = [
+    "name", "shape", "changes", "needs", "soname", "runpath", "files", "later", "fails", "pieces",
+    "wants",
 ];
 
-/// A file, other bytes of it at some places, the texts that it is to have, and what is wanted of the
-/// new file: some of its bytes, and lines.
+/// A file, other bytes of it at some places, the texts that it is to have, what happens between the
+/// two readings, and what is wanted of the new file: some of its bytes, and lines.
 #[derive(Clone, Copy)]
 pub struct Case<'a> {
     pub shape: &'a Value,
@@ -22,6 +23,10 @@ pub struct Case<'a> {
     pub runpath: Option<&'a str>,
     /// The files of the versions that are asked, in order.
     pub files: &'a [Value],
+    /// Other bytes of the file, once its face was read.
+    pub later: &'a [Value],
+    /// The method of the tree whose first call fails.
+    pub fails: Option<&'a str>,
     pub pieces: &'a [Value],
     pub wants: &'a [Value],
 }
@@ -36,6 +41,8 @@ impl<'a> Case<'a> {
             soname: row.text_if_any("soname")?,
             runpath: row.text_if_any("runpath")?,
             files: row.list("files")?,
+            later: row.list("later")?,
+            fails: row.text_if_any("fails")?,
             pieces: row.list("pieces")?,
             wants: row.list("wants")?,
         })

@@ -1,4 +1,4 @@
-//! Rewrites made files, and prints each that becomes another than a document wants.
+//! Rewrites made files of a tree, and prints each that becomes another than a document wants.
 #![tactic(auto)]
 
 mod document;
@@ -10,7 +10,8 @@ use case_rows::Fault;
 use document::{Case, cases_of, change_of, name_of};
 use elf_rewrite::RewriteStop;
 use face_lines::{lines_text, told_text};
-use rewriting::{Outcome, rewritten};
+use object_rewriting::RewritingStop;
+use rewriting::{Outcome, rewritten, tree_of};
 use std::alloc::Global;
 use std::io;
 use toml::{Table, Value};
@@ -66,9 +67,14 @@ fn answer(alloc: Global, case: &Case<'_>) -> Result<Vec<u8>, Fault> {
     let object = object_of(alloc, case.shape, HashTables::AsShaped)?;
     let bytes = altered(alloc, object, None, case.changes)?;
     let change = change_of(alloc, case)?;
-    match rewritten(alloc, bytes.as_slice(), &change)? {
-        Outcome::File(file) => file_lines(alloc, file.as_slice(), case.pieces),
-        Outcome::Stop(stop) => stop_line(alloc, stop),
+    let now = altered(alloc, bytes.clone()?, None, case.later)?;
+    let mut tree = tree_of(alloc, now.as_slice(), case.fails)?;
+    match rewritten(alloc, bytes.as_slice(), &mut tree, &change)? {
+        Outcome::File(file) => file_lines(alloc, file.as_bytes(), case.pieces),
+        Outcome::Stop(RewritingStop::Rewrite(stop)) => stop_line(alloc, stop),
+        Outcome::Stop(RewritingStop::Changed) => one_line(alloc, "Changed\n"),
+        Outcome::Stop(RewritingStop::Read) => one_line(alloc, "Read\n"),
+        Outcome::Stop(RewritingStop::NoMemory) => Err(Fault::NoMemory),
         Outcome::Unfit => one_line(alloc, "the change does not fit\n"),
     }
 }

@@ -1,67 +1,76 @@
-//! The new file of a file, or why there is none.
-
-ghost use Rattle.std.specs.Prelude.{◌≡◌, None};
-ghost use Rattle.load_model.specs.Faces.{first_flaw};
-ghost use Rattle.elf_rewrite.specs.NewFile.{Fits};
+//! The new bytes of a file of a tree, or why there are none.
 
 use crate::fitting::fits;
 use case_rows::Fault;
-use dyn_table::Dyn;
 use elf_face::read_face;
-use elf_headers::Elf;
-use elf_rewrite::{Change, Edit, RewriteStop, plan};
+use elf_rewrite::Change;
+use load_model::{Face, Name, Text};
+use object_rewriting::{RewritingStop, rewrite};
+use path_text::Abs;
+use ports::{AddFault, MemTree};
 use std::alloc::Global;
-use sym_tables::Syms;
-use version_tables::Versions;
 
 /// What comes of a file.
 #[derive(Drop)]
 pub enum Outcome {
-    File(Vec<u8>),
-    Stop(RewriteStop),
+    File(Text),
+    Stop(RewritingStop),
     /// The file has a flaw, or the change does not fit it.
     Unfit,
 }
 
-#[tactic(auto, using(crate::proofs::FittingLemmas::fits_it))]
-pub fn rewritten(alloc: Global, bytes: &[u8], change: &Change) -> Result<Outcome, Fault> {
-    let Ok(face) = read_face(alloc, bytes) else {
-        return Ok(Outcome::Unfit);
-    };
-    if !fits(&face, change) {
+/// What comes of a file that had other bytes when it was loaded.
+pub fn rewritten(
+    alloc: Global,
+    loaded: &[u8],
+    tree: &mut MemTree,
+    change: &Change,
+) -> Result<Outcome, Fault> {
+    match read_face(alloc, loaded) {
+        Ok(face) => rewritten_by(alloc, &face, tree, change),
+        Err(_) => Ok(Outcome::Unfit),
+    }
+}
+
+#[tactic(auto, using(crate::proofs::FittingLemmas::fits_face))]
+fn rewritten_by(
+    alloc: Global,
+    face: &Face,
+    tree: &mut MemTree,
+    change: &Change,
+) -> Result<Outcome, Fault> {
+    let path = object_path(alloc)?;
+    if !fits(face, change) {
         return Ok(Outcome::Unfit);
     }
-    match planned(alloc, bytes, change) {
-        Ok(edit) => Ok(Outcome::File(applied(alloc, bytes, &edit)?)),
+    match rewrite(alloc, tree, &path, face, change) {
+        Ok(text) => Ok(Outcome::File(text)),
+        Err(RewritingStop::NoMemory) => Err(Fault::NoMemory),
         Err(stop) => Ok(Outcome::Stop(stop)),
     }
 }
 
-fn planned(alloc: Global, bytes: &[u8], change: &Change) -> Result<Edit, RewriteStop>
-    requires face { first_flaw bytes.now ≡ None }
-    requires change { Fits change.now bytes.now }
-{
-    let Ok(elf) = Elf::read(alloc, bytes) else {
-        return Err(RewriteStop::NoMemory);
-    };
-    let Ok(table) = Dyn::read(alloc, &elf, bytes) else {
-        return Err(RewriteStop::NoMemory);
-    };
-    let Ok(syms) = Syms::read(alloc, &elf, &table, bytes) else {
-        return Err(RewriteStop::NoMemory);
-    };
-    let Ok(versions) = Versions::read(alloc, &elf, &table, syms.count(), bytes) else {
-        return Err(RewriteStop::NoMemory);
-    };
-    plan(alloc, &elf, &table, &syms, &versions, bytes, change)
+/// A tree with one file, in which the first call of a method fails.
+pub fn tree_of(alloc: Global, bytes: &[u8], fails: Option<&str>) -> Result<MemTree, Fault> {
+    let path = object_path(alloc)?;
+    let mut tree = MemTree::new(alloc)?;
+    match tree.add(&path, &Name::from_bytes(alloc, b"1")?, bytes) {
+        Ok(()) => {}
+        Err(AddFault::Taken) => return Err(Fault::Field("shape")),
+        Err(AddFault::NoMemory) => return Err(Fault::NoMemory),
+    }
+    match fails {
+        None => {}
+        Some("probe") => tree.fail_at(0, 1)?,
+        Some("read_at") => tree.fail_at(1, 1)?,
+        Some(_) => return Err(Fault::Field("fails")),
+    }
+    Ok(tree)
 }
 
-/// The new file, in a buffer that begins with the old one.
-fn applied(alloc: Global, bytes: &[u8], edit: &Edit) -> Result<Vec<u8>, Fault> {
-    let mut file = vec![in alloc; 0; edit.new_len()]?;
-    if bytes.len() <= file.len() {
-        file[..bytes.len()].copy_from_slice(bytes);
+fn object_path(alloc: Global) -> Result<Abs, Fault> {
+    match Abs::read(alloc, b"/object") {
+        Ok(path) => Ok(path),
+        Err(_) => Err(Fault::Field("path")),
     }
-    edit.apply(&mut file);
-    Ok(file)
 }

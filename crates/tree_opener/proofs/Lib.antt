@@ -1,4 +1,9 @@
+pub mod FacesLemmas
 pub mod KeepingLemmas
 pub mod Lists
+pub mod LoanLemmas
+pub mod NameTextLemmas
 pub mod OpeningLemmas
 pub mod ReadingLemmas
+pub mod SeenLemmas
+pub mod SelectedLemmas

@@ -10,7 +10,7 @@ use Rattle.byte_view.specs.Checks.{flaw}
 use Rattle.byte_view.specs.HeaderFlaws.{header_flaw, ident_flaw}
 use Rattle.byte_view.specs.Headers.{e_machine}
 use Rattle.byte_view.specs.Numbers.{number_at}
-use Rattle.byte_view.specs.declared.constants.TheConstants.{EM_X86_64, LONGEST_FILE}
+use Rattle.byte_view.specs.declared.constants.TheConstants.{LONGEST_FILE}
 use Rattle.byte_view.specs.declared.flaws.TheConstants.{TOO_BIG}
 use Rattle.load_model.specs.Faces.{face_or_flaw, first_flaw}
 use Rattle.load_model.specs.World.{is_other}
@@ -18,7 +18,7 @@ use Rattle.tree_opener.proofs.Lists.{take_within}
 use Rattle.answers.specs.Told.{WhereTold}
 use Rattle.load_model.specs.World.{World}
 use Rattle.ports.specs.Reading.{bytes_at}
-use Rattle.tree_opener.specs.Reading.{seen_by, seen_in}
+use Rattle.tree_opener.specs.Reading.{seen_for, seen_in}
 use Rattle.tree_opener.specs.declared.stops.ReadStop.{ReadStop}
 use Rattle.tree_opener.specs.declared.reading.Seen.{Seen}
 use Rattle.tree_opener.specs.declared.reading.Seen.TheVariants.{ForAnother, Flawed}
@@ -60,26 +60,26 @@ whole_read len n bytes all count read enough fits =
     let same : n ≡ length all = omega arith in
     read ∙ (ap (λ k. take k all) same ∙ take-length all)
 
-pub seen_for_another : (all : List ℕ) → is_other EM_X86_64 all ≡ true → ForAnother ≡ seen_in all
+pub seen_for_another : (m : ℕ) (all : List ℕ) → is_other m all ≡ true → ForAnother ≡ seen_in m all
 unfolding seen_in
-seen_for_another all h = rw h refl
+seen_for_another m all h = rw h refl
 
 -- a file that is too long has this flaw
 too_long : (all : List ℕ) → LONGEST_FILE < length all → face_or_flaw all ≡ Err (flaw TOO_BIG (length all) 0)
 unfolding face_or_flaw first_flaw header_flaw ident_flaw
 too_long all h = rw (lt-ltb LONGEST_FILE (length all) h) refl
 
-pub seen_too_long : (len : ℕ) (all : List ℕ) → length all ≡ len → LONGEST_FILE < len → is_other EM_X86_64 all ≡ false → Flawed (flaw TOO_BIG len 0) ≡ seen_in all
+pub seen_too_long : (m len : ℕ) (all : List ℕ) → length all ≡ len → LONGEST_FILE < len → is_other m all ≡ false → Flawed (flaw TOO_BIG len 0) ≡ seen_in m all
 unfolding seen_in
-seen_too_long len all count long h =
+seen_too_long m len all count long h =
     let big : LONGEST_FILE < length all = omega arith in
     ap (λ k. Flawed (flaw TOO_BIG k 0)) (sym count) ∙ rw (h, too_long all big) refl
 
 -- a file for this machine is seen by its face or its flaw
-pub seen_right : (bytes all : List ℕ) → bytes ≡ all → is_other EM_X86_64 all ≡ false → seen_by (face_or_flaw bytes) ≡ seen_in all
+pub seen_right : (m : ℕ) (bytes all : List ℕ) → bytes ≡ all → is_other m all ≡ false → seen_for m (face_or_flaw bytes) ≡ seen_in m all
 unfolding seen_in
-seen_right bytes all same h = ap (λ l. seen_by (face_or_flaw l)) same ∙ sym (rw h refl)
+seen_right m bytes all same h = ap (λ l. seen_for m (face_or_flaw l)) same ∙ sym (rw h refl)
 
-pub result_seen : (r : Result Seen ReadStop) (told : Option World) (bytes path : List ℕ) → IfOk r (λ seen. seen ≡ seen_by (face_or_flaw bytes)) → WhereTold told (λ world. seen_by (face_or_flaw bytes) ≡ seen_in (bytes_at world path)) → IfOk r (λ seen. WhereTold told (λ world. seen ≡ seen_in (bytes_at world path)))
-result_seen (Ok seen) told bytes path h k = λ world e. h ∙ k world e
-result_seen (Err stop) told bytes path h k = h
+pub result_seen : (m : ℕ) (r : Result Seen ReadStop) (told : Option World) (bytes path : List ℕ) → IfOk r (λ seen. seen ≡ seen_for m (face_or_flaw bytes)) → WhereTold told (λ world. seen_for m (face_or_flaw bytes) ≡ seen_in m (bytes_at world path)) → IfOk r (λ seen. WhereTold told (λ world. seen ≡ seen_in m (bytes_at world path)))
+result_seen m (Ok seen) told bytes path h k = λ world e. h ∙ k world e
+result_seen m (Err stop) told bytes path h k = h

@@ -2,11 +2,11 @@
 #![tactic(auto)]
 
 mod faces;
-mod opening;
+mod opener;
 mod reading;
+mod selecting;
 mod stops;
 
-pub use faces::LoadedFaces;
-pub use opening::FileOpener;
+pub use opener::{TreeOpener, TreeView};
 pub use reading::read_whole;
 pub use stops::ReadStop;

@@ -1,5 +1,5 @@
 use Rattle.std.proofs.Common.{◌∙◌, ap}
-use Rattle.appdir_cli.specs.Settings.{setting_of}
+use Rattle.app_config.specs.Settings.{setting_of}
 use Rattle.appdir_cli.proofs.ShowingLemmas.{shown_there}
 use Rattle.appdir_cli.proofs.showing.show.Goals as goal
 

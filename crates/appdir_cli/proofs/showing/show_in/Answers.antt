@@ -1,10 +1,11 @@
-use Rattle.appdir_cli.proofs.ShowingLemmas.{loading_stops, said}
+use Rattle.std.proofs.Common.{◌∷◌, [], ◌∙◌, ap}
+use Rattle.appdir_cli.proofs.ShowingLemmas.{loading_stops, shown}
 use Rattle.appdir_cli.proofs.showing.show_in.Goals as goal
 
-pub returns-in-Ok-clause-answer : goal.returns-in-Ok-clause-answer
-returns-in-Ok-clause-answer g c =
-    said c.args.setting.now (g.T.Tree.seen c.args.tree.now) (g.T.Tree.seen c.load_program.new.tree) c.args.program.now c.in-Ok.loaded c.said_of.result c.in-Ok.ensures.answer c.said_of.ensures
+pub returns-in-Ok-text_of-clause-answer : goal.returns-in-Ok-text_of-clause-answer
+returns-in-Ok-text_of-clause-answer g c =
+    shown c.args.setting.now (g.T.Tree.seen c.args.tree.now) (g.T.Tree.seen c.load_all.new.tree) c.args.program.now c.from_ref.result.now c.in-Ok-load_all.loaded c.in-Ok-text_of.text (c.from_ref.ensures ∙ ap (λ p. p ∷ []) c.in-Ok.ensures) c.in-Ok-load_all.ensures.answer c.in-Ok-text_of.ensures
 
-pub returns-in-Err-clause-answer : goal.returns-in-Err-clause-answer
-returns-in-Err-clause-answer g c =
-    loading_stops c.args.setting.now (g.T.Tree.seen c.args.tree.now) (g.T.Tree.seen c.load_program.new.tree) c.args.program.now c.in-Err.stop c.in-Err.ensures.answer
+pub returns-in-Err-load_all-clause-answer : goal.returns-in-Err-load_all-clause-answer
+returns-in-Err-load_all-clause-answer g c =
+    loading_stops c.args.setting.now (g.T.Tree.seen c.args.tree.now) (g.T.Tree.seen c.load_all.new.tree) c.args.program.now c.from_ref.result.now c.in-Err-load_all.stop (c.from_ref.ensures ∙ ap (λ p. p ∷ []) c.in-Ok.ensures) c.in-Err-load_all.ensures.answer

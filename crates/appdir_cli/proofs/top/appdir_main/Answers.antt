@@ -1,7 +1,7 @@
 use Rattle.appdir_cli.specs.Endings.{outside}
 use Rattle.appdir_cli.specs.Words.{command_of, texts}
 use Rattle.appdir_cli.proofs.CompletenessLemmas.{ends_complete}
-use Rattle.appdir_cli.proofs.TwoWorldsLemmas.{ended_portable, runs_alike}
+use Rattle.appdir_cli.proofs.TwoWorldsLemmas.{runs_alike}
 use Rattle.appdir_cli.proofs.top.appdir_main.Goals as goal
 
 pub returns-clause-complete : goal.returns-clause-complete
@@ -10,7 +10,3 @@ returns-clause-complete g c =
 
 pub returns-clause-two_worlds : goal.returns-clause-two_worlds
 returns-clause-two_worlds g c world told = runs_alike (texts c.args.words.now) world
-
-pub returns-clause-portable : goal.returns-clause-portable
-returns-clause-portable g c done =
-    ended_portable (texts c.args.words.now) (outside (g.T.Tree.seen c.args.tree.now) (g.O.OutDir.seen c.args.out.now) (g.S.Sink.seen c.args.sink.now)) (outside (g.T.Tree.seen c.attend.new.tree) (g.O.OutDir.seen c.attend.new.out) (g.S.Sink.seen c.attend.new.sink)) c.attend.result c.attend.ensures.ending done

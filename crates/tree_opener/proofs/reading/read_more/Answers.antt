@@ -5,7 +5,7 @@ use Rattle.tree_opener.proofs.reading.read_more.Goals as goal
 
 pub returns-clause-front : goal.returns-clause-front
 returns-clause-front g c world told =
-    let all : List ℕ = bytes_at world c.args.path.now in
+    let all : List ℕ = bytes_at world c.args.file.now.path.now in
     let items : c.extend_from_slice.new.self.items ≡ c.args.bytes.now.items ++ take c.min-wanted.result c.read_at.new.buf = c.in_ok-extend_from_slice.ensures.items in
     let before : vec_len c.args.bytes.now ≡ length c.args.bytes.now.items = c.args.bytes.now.ok.0 in
     let at : c.len-at.result ≡ length c.args.bytes.now.items = c.len-at.ensures ∙ before in

@@ -1,0 +1,10 @@
+pub mod StepLemmas
+pub mod FirstLemmas
+pub mod ListingLemmas
+pub mod PackageLemmas
+pub mod PreparedLemmas
+pub mod LawLemmas
+pub mod BodyLemmas
+pub mod ItemLemmas
+pub mod WrittenLemmas
+pub mod AssembledLemmas

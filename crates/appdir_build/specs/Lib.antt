@@ -1,0 +1,5 @@
+pub mod Files
+pub mod Objects
+pub mod Outcome
+pub mod Refusals
+pub mod Writing

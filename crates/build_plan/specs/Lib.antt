@@ -1,0 +1,4 @@
+pub mod Building
+pub mod Deciding
+pub mod Refusals
+pub mod Steps

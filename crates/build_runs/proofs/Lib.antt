@@ -1,0 +1,9 @@
+pub mod AnswerLemmas
+pub mod FileLemmas
+pub mod GrownLemmas
+pub mod LawLemmas
+pub mod OrderLemmas
+pub mod SameRunLemmas
+pub mod StopLemmas
+pub mod UnmetLemmas
+pub mod ZipLemmas

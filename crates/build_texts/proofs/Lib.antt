@@ -1,0 +1,4 @@
+mod CountLemmas
+mod PlaceLemmas
+mod RecordLemmas
+mod ReplayLemmas
