@@ -13,7 +13,7 @@ use Rattle.build_plan.specs.Deciding.{OpensFileNames}
 use Rattle.build_plan.specs.Steps.{IsStepAnswer}
 use Rattle.build_plan.specs.declared.stops.BuildStop.{BuildStop}
 use Rattle.build_plan.specs.declared.stops.BuildStop.TheVariants.{Refused, Read, NoMemory}
-use Rattle.build_runs.specs.declared.programs.Program.{Program as Start}
+use Rattle.build_runs.specs.declared.programs.Start.{Start}
 use Rattle.deliveries.specs.declared.answer.Answer.{Answer}
 use Rattle.deliveries.specs.declared.answer.Answer.TheVariants.{Packs as PacksFiles}
 use Rattle.deliveries.specs.declared.answer.Whole.{Whole}

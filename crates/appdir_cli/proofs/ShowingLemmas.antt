@@ -12,7 +12,7 @@ use Rattle.build_runs.specs.Answering.{IsLoadsAnswer}
 use Rattle.build_runs.specs.BuildRuns.{AreRuns}
 use Rattle.build_runs.specs.FirstStops.{IsFirstStop}
 use Rattle.build_runs.specs.declared.loading.LoadedRuns.{LoadedRuns}
-use Rattle.build_runs.specs.declared.programs.Program.{Program}
+use Rattle.build_runs.specs.declared.programs.Start.{Start}
 use Rattle.build_runs.specs.declared.stops.LoadsStop.{LoadsStop}
 use Rattle.build_runs.specs.declared.stops.LoadsStop.TheVariants.{Refused, Read, NoMemory}
 use Rattle.deliveries.specs.declared.answer.Answer.{Answer}
@@ -62,8 +62,8 @@ text_said faces runs front run (Err error) e h = tt
 -- ---- from loading
 
 -- a program that is not loaded ends the command
-pub loading_stops : (setting : Setting) (before after : View World) (path : List ℕ) (programs : List Program) (stop : LoadsStop) → programs ≡ shown_program path ∷ [] → IsLoadsAnswer setting before after programs (Err stop) → IsStepAnswer {A = Answer} before after (λ world outcome. ShowsIn setting world path outcome) (Err (stop_of_loads stop))
-loading_stops setting before after path programs (Refused refusal) e h = λ world told. subst (λ (l : List Program). IsFirstStop setting world l refusal) e (h world told)
+pub loading_stops : (setting : Setting) (before after : View World) (path : List ℕ) (programs : List Start) (stop : LoadsStop) → programs ≡ shown_program path ∷ [] → IsLoadsAnswer setting before after programs (Err stop) → IsStepAnswer {A = Answer} before after (λ world outcome. ShowsIn setting world path outcome) (Err (stop_of_loads stop))
+loading_stops setting before after path programs (Refused refusal) e h = λ world told. subst (λ (l : List Start). IsFirstStop setting world l refusal) e (h world told)
 loading_stops setting before after path programs Read e h = h
 loading_stops setting before after path programs NoMemory e h = tt
 
@@ -74,9 +74,9 @@ module _ (setting : Setting) (world : World) (path text : List ℕ) (faces : Lis
   shown_one (run ∷ other ∷ runs) are said = absurd are.each.1
 
 -- what is said of the run that was loaded is said of the world's
-pub shown : (setting : Setting) (before after : View World) (path : List ℕ) (programs : List Program) (loaded : LoadedRuns) (text : List ℕ) → programs ≡ shown_program path ∷ [] → IsLoadsAnswer setting before after programs (Ok loaded) → ((run : Run) → loaded.runs ≡ run ∷ [] → text ≡ shown_text loaded.table.faces run) → IsStepAnswer {A = Answer} before after (λ world outcome. ShowsIn setting world path outcome) (Ok (Says text))
+pub shown : (setting : Setting) (before after : View World) (path : List ℕ) (programs : List Start) (loaded : LoadedRuns) (text : List ℕ) → programs ≡ shown_program path ∷ [] → IsLoadsAnswer setting before after programs (Ok loaded) → ((run : Run) → loaded.runs ≡ run ∷ [] → text ≡ shown_text loaded.table.faces run) → IsStepAnswer {A = Answer} before after (λ world outcome. ShowsIn setting world path outcome) (Ok (Says text))
 shown setting before after path programs loaded text e h said = λ world told.
-    shown_one setting world path text loaded.table.faces loaded.runs (subst (λ (l : List Program). AreRuns setting world l loaded.table.faces loaded.runs) e (h world told)) said
+    shown_one setting world path text loaded.table.faces loaded.runs (subst (λ (l : List Start). AreRuns setting world l loaded.table.faces loaded.runs) e (h world told)) said
 
 -- one setting is that of the command
 pub shown_there : (setting : Setting) (before after : View World) (command : Show) (result : Result Answer BuildStop) → setting ≡ setting_of command.dirs → IsStepAnswer before after (λ world outcome. ShowsIn setting world command.program outcome) result → IsStepAnswer before after (λ world outcome. Shows world command outcome) result

@@ -6,7 +6,7 @@ use Rattle.bind_report.specs.Places.{no_places}
 use Rattle.bind_report.specs.Report.{report_text}
 use Rattle.build_runs.specs.BuildRuns.{AreRuns}
 use Rattle.build_runs.specs.FirstStops.{IsFirstStop}
-use Rattle.build_runs.specs.declared.programs.Program.{Program}
+use Rattle.build_runs.specs.declared.programs.Start.{Start}
 use Rattle.deliveries.specs.declared.answer.Answer.{Answer}
 use Rattle.deliveries.specs.declared.answer.Answer.TheVariants.{Says, Packs as PacksFiles}
 use Rattle.load_model.specs.World.{World}
@@ -23,7 +23,7 @@ shown_text faces run =
     report_text (replay_in faces run ∷ []) faces (no_places run.objs ∷ [])
 
 -- The program alone, which opens nothing.
-abbrev pub shown_program : List ℕ → Program
+abbrev pub shown_program : List ℕ → Start
 shown_program path = record { path = path; opens = [] }
 
 -- The text of the program's run, whose versions are met.

@@ -15,7 +15,7 @@ use crate::words::Show;
 use app_config::setting_of;
 use appdir_build::BuildStop;
 use bind_report::report;
-use build_runs::{LoadedRuns, LoadsStop, Program, load_all};
+use build_runs::{LoadedRuns, LoadsStop, Start, load_all};
 use deliveries::Answer;
 use load_model::{List, Name, Obj, Replay, Run, Setting, Text};
 use loader_replay::binds_of;
@@ -76,10 +76,10 @@ fn stop_of(stop: LoadsStop) -> BuildStop
 }
 
 /// A program that opens nothing.
-fn program_alone(alloc: Global, path: &Abs) -> Result<Program, NoMemory>
+fn program_alone(alloc: Global, path: &Abs) -> Result<Start, NoMemory>
     ensures { IfOk result (λ program. program ≡ shown_program path.now) }
 {
-    Ok(Program {
+    Ok(Start {
         path: path.copy(alloc)?,
         opens: List::new(alloc),
     })

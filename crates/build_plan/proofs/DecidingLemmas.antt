@@ -8,7 +8,7 @@ use Rattle.build_runs.specs.Answering.{IsLoadsAnswer, IsSafeRun}
 use Rattle.build_runs.specs.declared.loading.LoadedRuns.{LoadedRuns}
 use Rattle.build_runs.specs.declared.stops.LoadsStop.{LoadsStop}
 use Rattle.build_runs.specs.declared.stops.LoadsStop.TheVariants.{Refused as LoadsRefused, Read as LoadsRead, NoMemory as NoMemoryLoads}
-use Rattle.build_runs.specs.declared.programs.Program.{Program as Start}
+use Rattle.build_runs.specs.declared.programs.Start.{Start}
 use Rattle.load_model.specs.World.{World}
 use Rattle.load_model.specs.declared.faces.Face.{Face}
 use Rattle.load_model.specs.declared.runs.Run.{Run}

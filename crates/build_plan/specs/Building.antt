@@ -4,7 +4,7 @@ use Rattle.std.specs.Prelude.{ℕ, List, ◌∷◌, ◌≡◌, None, Ok, map}
 use Rattle.app_config.specs.declared.config.Config.{Config}
 use Rattle.app_config.specs.declared.config.Program.{Program}
 use Rattle.build_runs.specs.BuildRuns.{AreRuns}
-use Rattle.build_runs.specs.declared.programs.Program.{Program as Start}
+use Rattle.build_runs.specs.declared.programs.Start.{Start}
 use Rattle.lib_closure.specs.Splits.{split_of}
 use Rattle.lib_closure.specs.declared.splits.Split.{Split}
 use Rattle.load_model.specs.World.{World}

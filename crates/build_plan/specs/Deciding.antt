@@ -3,7 +3,7 @@ use Rattle.std.specs.Prelude.{ℕ, List, ◌≡◌, All, Some, Result, Ok, Err}
 use Rattle.app_config.specs.declared.config.Config.{Config}
 use Rattle.build_runs.specs.Answering.{AreSafeRuns}
 use Rattle.build_runs.specs.FirstStops.{IsFirstStop}
-use Rattle.build_runs.specs.declared.programs.Program.{Program as Start}
+use Rattle.build_runs.specs.declared.programs.Start.{Start}
 use Rattle.build_runs.specs.declared.loading.LoadedRuns.{LoadedRuns}
 use Rattle.lib_closure.specs.Splits.{split_of}
 use Rattle.lib_closure.specs.declared.splits.Split.{Split}

@@ -4,7 +4,7 @@ ghost use Rattle.std.specs.Prelude.{◌≡◌, ◌++◌, IfOk, OnOk, map};
 ghost use Rattle.build_plan.specs.Building.{start_of, starts_of};
 
 use app_config::{Config, Program};
-use build_runs::Program as Start;
+use build_runs::Start;
 use load_model::{List, NoMemory};
 use std::alloc::Global;
 

@@ -18,9 +18,9 @@ use Rattle.build_runs.specs.BuildRuns.{AreRuns, IsRunFor}
 use Rattle.build_runs.specs.Checking.{IsFirstUnmetRun}
 use Rattle.build_runs.specs.Loading.{IsListFor, IsSafeList}
 use Rattle.build_runs.specs.Ordering.{ArePutInOrder, IsSameRun}
-use Rattle.build_runs.specs.declared.programs.Program.{Program}
+use Rattle.build_runs.specs.declared.programs.Start.{Start}
 
-module _ (faces : List Face) (programs : List Program) (runs : List Run) where
+module _ (faces : List Face) (programs : List Start) (runs : List Run) where
   pub lists_over : AllZip (IsSafeList faces) programs runs → All (IsRunOver faces) runs
   lists_over = zip_right (IsSafeList faces) (IsRunOver faces) (λ program run safe. safe.over) programs runs
 
@@ -41,7 +41,7 @@ module _ (faces : List Face) (programs : List Program) (runs : List Run) where
       programs runs lists (λ k run g. all_at (λ run. first_unmet faces run ≡ None) runs k run met g)
 
 -- the same by equal names
-pub lists_over_so : (faces same : List Face) (programs : List Program) (runs copies : List Run) → same ≡ faces → copies ≡ runs → AllZip (IsSafeList faces) programs runs → All (IsRunOver same) copies
+pub lists_over_so : (faces same : List Face) (programs : List Start) (runs copies : List Run) → same ≡ faces → copies ≡ runs → AllZip (IsSafeList faces) programs runs → All (IsRunOver same) copies
 lists_over_so faces same programs runs copies e f safe =
     subst (λ fs. All (IsRunOver fs) copies) (sym e) (subst (λ rs. All (IsRunOver faces) rs) (sym f) (lists_over faces programs runs safe))
 
@@ -53,8 +53,8 @@ pub unmet_so : (faces same : List Face) (runs copies : List Run) (stop : ReplayS
 unmet_so faces same runs copies stop e f unmet =
     subst (λ fs. IsFirstUnmetRun fs runs stop) e (subst (λ rs. IsFirstUnmetRun same rs stop) f unmet)
 
-module _ (faces kept : List Face) (programs : List Program) (runs new : List Run) (order : ArePutInOrder faces runs kept new) where
-  run_for : (setting : Setting) (world : World) (program : Program) (run other : Run) → IsRunFor setting world faces program run → IsSameRun faces kept run other → IsRunFor setting world kept program other
+module _ (faces kept : List Face) (programs : List Start) (runs new : List Run) (order : ArePutInOrder faces runs kept new) where
+  run_for : (setting : Setting) (world : World) (program : Start) (run other : Run) → IsRunFor setting world faces program run → IsSameRun faces kept run other → IsRunFor setting world kept program other
   run_for setting world program run other is same = record {
     loads = record {
       loaded = is.loads.loaded;

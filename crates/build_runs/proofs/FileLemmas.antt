@@ -23,7 +23,7 @@ use Rattle.load_model.specs.declared.setting.Setting.{Setting}
 use Rattle.load_model.specs.declared.world.WorldFile.{WorldFile}
 use Rattle.build_runs.proofs.ZipLemmas.{zip_back}
 use Rattle.build_runs.specs.BuildRuns.{AreRuns, IsFileIn, IsRunFor}
-use Rattle.build_runs.specs.declared.programs.Program.{Program}
+use Rattle.build_runs.specs.declared.programs.Start.{Start}
 
 -- an object is a file of the world
 pub record IsFound (world : World) (o : Object) : Type 0 where
@@ -143,7 +143,7 @@ module _ (setting : Setting) (world : World) where
       let run : IsRun (goes_to face_or_flaw setting world path) list.program opens loaded = forget face_or_flaw setting world path list.program opens loaded ends list.run in
       first_found path opens loaded ends list (history face_or_flaw setting world path list.program opens loaded run) (suc j) o (omega arith) g
 
-  pub file_of_object : (programs : List Program) (faces : List Face) (runs : List Run) (k j : ℕ) (run : Run) (x : Obj) → AreRuns setting world programs faces runs → slice_get runs k ≡ Some run → slice_get run.objs j ≡ Some x → IsFileIn world faces x
+  pub file_of_object : (programs : List Start) (faces : List Face) (runs : List Run) (k j : ℕ) (run : Run) (x : Obj) → AreRuns setting world programs faces runs → slice_get runs k ≡ Some run → slice_get run.objs j ≡ Some x → IsFileIn world faces x
   file_of_object programs faces runs k j run x are g h =
       let w = zip_back (IsRunFor setting world faces) programs runs k run are.each g in
       let loads = w.2.loads in

@@ -15,7 +15,7 @@ use Rattle.load_model.specs.declared.setting.Setting.{Setting}
 use Rattle.load_requests.proofs.AskingPlaces.{all_at, all_more}
 use Rattle.build_runs.proofs.ZipLemmas.{zip_map, zip_more}
 use Rattle.build_runs.specs.Loading.{IsListFor, IsSafeList}
-use Rattle.build_runs.specs.declared.programs.Program.{Program}
+use Rattle.build_runs.specs.declared.programs.Start.{Start}
 
 module _ (before after : OpenerView) (grew : OnlyGrew before after) where
   -- a face that was in the table is the one at its place
@@ -54,7 +54,7 @@ module _ (before after : OpenerView) (grew : OnlyGrew before after) where
     locals = over.locals;
   }
 
-  pub safe_list : (program : Program) (run : Run) → IsSafeList before.faces program run → IsSafeList after.faces program run
+  pub safe_list : (program : Start) (run : Run) → IsSafeList before.faces program run → IsSafeList after.faces program run
   safe_list program run safe = record { over = run_over run safe.over; loaders = safe.loaders; opens = safe.opens }
 
   obj_of : (loaded : Loaded) (ends : List Loaded) (j : ℕ) (x : Obj) → IsObjOf before.faces loaded ends j x → IsObjOf after.faces loaded ends j x
@@ -80,7 +80,7 @@ module _ (before after : OpenerView) (grew : OnlyGrew before after) where
     locals = is.locals;
   }
 
-  pub list_for : (setting : Setting) (world : World) (program : Program) (run : Run) → IsListFor setting world before.faces program run → IsListFor setting world after.faces program run
+  pub list_for : (setting : Setting) (world : World) (program : Start) (run : Run) → IsListFor setting world before.faces program run → IsListFor setting world after.faces program run
   list_for setting world program run loads = record {
     loaded = loads.loaded;
     ends = loads.ends;
@@ -89,7 +89,7 @@ module _ (before after : OpenerView) (grew : OnlyGrew before after) where
   }
 
 -- one program more, over a table that grew meanwhile
-module _ (before after : OpenerView) (grew : OnlyGrew before after) (programs : List Program) (i : ℕ) (program : Program) (runs more : List Run) (run : Run) (stands : slice_get programs i ≡ Some program) (added : more ≡ runs ++ run ∷ []) where
+module _ (before after : OpenerView) (grew : OnlyGrew before after) (programs : List Start) (i : ℕ) (program : Start) (runs more : List Run) (run : Run) (stands : slice_get programs i ≡ Some program) (added : more ≡ runs ++ run ∷ []) where
   below : i < length programs
   below = slice_get_within programs i program stands
 

@@ -23,7 +23,7 @@ use Rattle.build_runs.proofs.ZipLemmas.{zip_across}
 use Rattle.build_runs.specs.BuildRuns.{AreRuns, IsRunFor, IsTableInOrder, face_places, places_in}
 use Rattle.build_runs.specs.FirstStops.{HasLoadList, HasRun, IsFirstStop, LoadStops, StopsFirst, VersionStops}
 use Rattle.build_runs.specs.Ordering.{IsSameRun, with_face}
-use Rattle.build_runs.specs.declared.programs.Program.{Program}
+use Rattle.build_runs.specs.declared.programs.Start.{Start}
 
 -- lists that agree at each place
 same_lists : {A : Type 0} (xs ys : List A) → length xs ≡ length ys → ((k : ℕ) (x y : A) → slice_get xs k ≡ Some x → slice_get ys k ≡ Some y → x ≡ y) → xs ≡ ys
@@ -82,7 +82,7 @@ module _ (faces faces' : List Face) (opens : List (List ℕ)) (loaded : Loaded) 
 
 module _ (setting : Setting) (world : World) where
   -- one program has one list
-  pub same_loads : (faces faces' : List Face) (program : Program) (run run' : Run) → IsRunFor setting world faces program run → IsRunFor setting world faces' program run' → IsSameRun faces faces' run run'
+  pub same_loads : (faces faces' : List Face) (program : Start) (run run' : Run) → IsRunFor setting world faces program run → IsRunFor setting world faces' program run' → IsSameRun faces faces' run run'
   same_loads faces faces' program run run' a b =
       let one = at_most_one face_or_flaw setting world program.path program.opens b.loads.loaded a.loads.loaded b.loads.ends a.loads.ends b.loads.list a.loads.list in
       let there : IsRunOf faces' program.opens a.loads.loaded a.loads.ends run' = subst (λ (es : List Loaded). IsRunOf faces' program.opens a.loads.loaded es run') one.1 (subst (λ (s : Loaded). IsRunOf faces' program.opens s b.loads.ends run') one.0 b.loads.run_is) in
@@ -195,28 +195,28 @@ one_in_order faces kept runs new same a b =
     let all : map (λ face. Some face) faces ≡ map (λ face. Some face) kept = sym (all_faces faces) ∙ (ap (map (slice_get faces)) (sym a) ∙ (sym (faces_of_runs faces kept runs new same) ∙ (ap (map (slice_get kept)) b ∙ all_faces kept))) in
     (some_same faces kept all, same_runs faces kept runs new same places)
 
-module _ (setting : Setting) (world : World) (programs : List Program) where
+module _ (setting : Setting) (world : World) (programs : List Start) where
   pub at_most_one_build : (faces faces' : List Face) (runs runs' : List Run) → AreRuns setting world programs faces runs → AreRuns setting world programs faces' runs' → (faces ≡ faces') × (runs ≡ runs')
   at_most_one_build faces faces' runs runs' a b =
       one_in_order faces faces' runs runs' (zip_across (IsRunFor setting world faces) (IsRunFor setting world faces') (IsSameRun faces faces') (same_loads setting world faces faces') programs runs runs' a.each b.each) a.in_order b.in_order
 
 module _ (setting : Setting) (world : World) where
-  run_or_load_stop : (program : Program) (faces : List Face) (run : Run) (refusal : LoadRefusal) → IsRunFor setting world faces program run → LoadStops setting world program refusal → ⊥
+  run_or_load_stop : (program : Start) (faces : List Face) (run : Run) (refusal : LoadRefusal) → IsRunFor setting world faces program run → LoadStops setting world program refusal → ⊥
   run_or_load_stop program faces run refusal a stop = list_or_stop face_or_flaw setting world program.path program.opens a.loads.loaded a.loads.ends refusal a.loads.list stop
 
-  run_or_version_stop : (program : Program) (faces : List Face) (run : Run) (refusal : LoadRefusal) → IsRunFor setting world faces program run → VersionStops setting world program refusal → ⊥
+  run_or_version_stop : (program : Start) (faces : List Face) (run : Run) (refusal : LoadRefusal) → IsRunFor setting world faces program run → VersionStops setting world program refusal → ⊥
   run_or_version_stop program faces run refusal a stop =
       let one = at_most_one face_or_flaw setting world program.path program.opens stop.loads.loaded a.loads.loaded stop.loads.ends a.loads.ends stop.loads.list a.loads.list in
       let there : IsRunOf stop.faces program.opens a.loads.loaded a.loads.ends stop.run = subst (λ (es : List Loaded). IsRunOf stop.faces program.opens a.loads.loaded es stop.run) one.1 (subst (λ (s : Loaded). IsRunOf stop.faces program.opens s stop.loads.ends stop.run) one.0 stop.loads.run_is) in
       let none : None ≡ Some stop.first = sym a.met ∙ first_same faces stop.faces program.opens a.loads.loaded a.loads.ends run stop.run a.loads.run_is there ∙ stop.unmet in
       absurd (cc)
 
-  runs_or_stop_by : (Passes : Program → Type 0) (Stops : Program → LoadRefusal → Type 0) (faces : List Face) → ((program : Program) (run : Run) (refusal : LoadRefusal) → IsRunFor setting world faces program run → Stops program refusal → ⊥) → (programs : List Program) (runs : List Run) (refusal : LoadRefusal) → AllZip (IsRunFor setting world faces) programs runs → StopsFirst Passes Stops programs refusal → ⊥
+  runs_or_stop_by : (Passes : Start → Type 0) (Stops : Start → LoadRefusal → Type 0) (faces : List Face) → ((program : Start) (run : Run) (refusal : LoadRefusal) → IsRunFor setting world faces program run → Stops program refusal → ⊥) → (programs : List Start) (runs : List Run) (refusal : LoadRefusal) → AllZip (IsRunFor setting world faces) programs runs → StopsFirst Passes Stops programs refusal → ⊥
   runs_or_stop_by Passes Stops faces apart [] runs refusal h stop = stop
   runs_or_stop_by Passes Stops faces apart (p ∷ programs) [] refusal h stop = h
   runs_or_stop_by Passes Stops faces apart (p ∷ programs) (run ∷ runs) refusal h (inl stop) = apart p run refusal h.0 stop
   runs_or_stop_by Passes Stops faces apart (p ∷ programs) (run ∷ runs) refusal h (inr stop) = runs_or_stop_by Passes Stops faces apart programs runs refusal h.1 stop.1
 
-  pub runs_or_stop : (programs : List Program) (faces : List Face) (runs : List Run) (refusal : LoadRefusal) → AreRuns setting world programs faces runs → IsFirstStop setting world programs refusal → ⊥
+  pub runs_or_stop : (programs : List Start) (faces : List Face) (runs : List Run) (refusal : LoadRefusal) → AreRuns setting world programs faces runs → IsFirstStop setting world programs refusal → ⊥
   runs_or_stop programs faces runs refusal a (inl stop) = runs_or_stop_by (HasLoadList setting world) (LoadStops setting world) faces (λ program run r. run_or_load_stop program faces run r) programs runs refusal a.each stop
   runs_or_stop programs faces runs refusal a (inr stop) = runs_or_stop_by (HasRun setting world) (VersionStops setting world) faces (λ program run r. run_or_version_stop program faces run r) programs runs refusal a.each stop.1

@@ -13,7 +13,7 @@ use Rattle.load_requests.proofs.AskingPlaces.{all_at, all_from}
 use Rattle.build_runs.proofs.UnmetLemmas.{first_agreed}
 use Rattle.build_runs.specs.Answering.{IsSafeRun}
 use Rattle.build_runs.specs.Ordering.{IsSameRun, with_face}
-use Rattle.build_runs.specs.declared.programs.Program.{Program}
+use Rattle.build_runs.specs.declared.programs.Start.{Start}
 
 abbrev placeless : Obj → Obj
 placeless x = with_face x 0
@@ -106,7 +106,7 @@ module _ (faces kept : List Face) (run new : Run) (same : IsSameRun faces kept r
     others = λ j y some g. (let w = was j y g in let loader : y.loader ≡ w.0.loader = ap (λ (z : Obj). z.loader) (sym w.2) in subst (λ n. n < j) (sym loader) (small.others j w.0 some w.1));
   }
 
-  pub safe_run : (program : Program) → IsSafeRun faces program run → IsSafeRun kept program new
+  pub safe_run : (program : Start) → IsSafeRun faces program run → IsSafeRun kept program new
   safe_run program safe = record {
     over = run_over safe.over;
     loaders = small_loaders safe.loaders;

@@ -28,10 +28,10 @@ use Rattle.build_runs.specs.Checking.{IsFirstUnmetRun}
 use Rattle.build_runs.specs.FirstStops.{HasLoadList, HasRun, IsFirstStop, LoadStops, StopsFirst, VersionStops}
 use Rattle.build_runs.specs.Loading.{IsBuildStop, IsListFor, IsLoadsStop}
 use Rattle.build_runs.specs.Stops.{stop_of_replay}
-use Rattle.build_runs.specs.declared.programs.Program.{Program}
+use Rattle.build_runs.specs.declared.programs.Start.{Start}
 
 -- one that stops, behind others that pass
-pub stops_at : (Passes : Program → Type 0) (Stops : Program → LoadRefusal → Type 0) (programs : List Program) (i : ℕ) (program : Program) (refusal : LoadRefusal) → ((k : ℕ) (other : Program) → k < i → slice_get programs k ≡ Some other → Passes other) → slice_get programs i ≡ Some program → Stops program refusal → StopsFirst Passes Stops programs refusal
+pub stops_at : (Passes : Start → Type 0) (Stops : Start → LoadRefusal → Type 0) (programs : List Start) (i : ℕ) (program : Start) (refusal : LoadRefusal) → ((k : ℕ) (other : Start) → k < i → slice_get programs k ≡ Some other → Passes other) → slice_get programs i ≡ Some program → Stops program refusal → StopsFirst Passes Stops programs refusal
 stops_at Passes Stops [] i program refusal earlier g h = cc
 stops_at Passes Stops (p ∷ programs) zero program refusal earlier g h =
     let same : program ≡ p = cc in
@@ -46,11 +46,11 @@ refused_so P Q (Some refusal) f h = f refusal h
 rose_before : (a b c : ℕ) → a ≤ b → Rose b c → Rose a c
 rose_before a b c h r = omega (arith, r)
 
-has_list : (setting : Setting) (world : World) (faces : List Face) (program : Program) (run : Run) → IsListFor setting world faces program run → HasLoadList setting world program
+has_list : (setting : Setting) (world : World) (faces : List Face) (program : Start) (run : Run) → IsListFor setting world faces program run → HasLoadList setting world program
 has_list setting world faces program run loads = record { loaded = loads.loaded; ends = loads.ends; list = loads.list }
 
 -- a load list stops, behind programs that have one
-pub lists_stop : (setting : Setting) (start before after : OpenerView) (programs : List Program) (i : ℕ) (program : Program) (runs : List Run) (stop : LoadStop) → OnlyGrew start before → WhereTold start.told (λ world. AllZip (IsListFor setting world before.faces) (take i programs) runs) → slice_get programs i ≡ Some program → IsLoadAnswer setting before after program.path program.opens (Err stop) → IsLoadsStop setting start after programs stop
+pub lists_stop : (setting : Setting) (start before after : OpenerView) (programs : List Start) (i : ℕ) (program : Start) (runs : List Run) (stop : LoadStop) → OnlyGrew start before → WhereTold start.told (λ world. AllZip (IsListFor setting world before.faces) (take i programs) runs) → slice_get programs i ≡ Some program → IsLoadAnswer setting before after program.path program.opens (Err stop) → IsLoadsStop setting start after programs stop
 lists_stop setting start before after programs i program runs stop grew lists g answer = record {
   refused = λ world told.
       refused_so (LoadStops setting world program) (StopsFirst (HasLoadList setting world) (LoadStops setting world) programs) (refusal_of stop)
@@ -60,19 +60,19 @@ lists_stop setting start before after programs i program runs stop grew lists g 
   read = λ r. rose_before start.faults before.faults after.faults grew.faults (answer.1 r);
 }
 
-pub lists_want_memory : (setting : Setting) (before after : OpenerView) (programs : List Program) → IsLoadsStop setting before after programs LoadNoMemory
+pub lists_want_memory : (setting : Setting) (before after : OpenerView) (programs : List Start) → IsLoadsStop setting before after programs LoadNoMemory
 lists_want_memory setting before after programs = record { refused = λ world told. tt; read = λ r. absurd (cc) }
 
-module _ (setting : Setting) (world : World) (faces : List Face) (programs : List Program) (runs : List Run) (lists : AllZip (IsListFor setting world faces) programs runs) where
+module _ (setting : Setting) (world : World) (faces : List Face) (programs : List Start) (runs : List Run) (lists : AllZip (IsListFor setting world faces) programs runs) where
   all_listed : All (HasLoadList setting world) programs
   all_listed = zip_left (IsListFor setting world faces) (HasLoadList setting world) (has_list setting world faces) programs runs lists
 
-  met_there : (k : ℕ) (program : Program) → slice_get programs k ≡ Some program → ((run : Run) → slice_get runs k ≡ Some run → first_unmet faces run ≡ None) → HasRun setting world program
+  met_there : (k : ℕ) (program : Start) → slice_get programs k ≡ Some program → ((run : Run) → slice_get runs k ≡ Some run → first_unmet faces run ≡ None) → HasRun setting world program
   met_there k program g met =
       let w = zip_there (IsListFor setting world faces) programs runs k program lists g in
       record { faces = faces; run = w.0; run_is = record { loads = w.2; met = met w.0 w.1 } }
 
-  unmet_there : (program : Program) (run : Run) (refusal : LoadRefusal) → IsListFor setting world faces program run → RefusesFirst faces run refusal → VersionStops setting world program refusal
+  unmet_there : (program : Start) (run : Run) (refusal : LoadRefusal) → IsListFor setting world faces program run → RefusesFirst faces run refusal → VersionStops setting world program refusal
   unmet_there program run refusal loads h = record {
     faces = faces;
     run = run;
@@ -90,14 +90,14 @@ module _ (setting : Setting) (world : World) (faces : List Face) (programs : Lis
       h.stops.refused
 
 -- a version that is not met, where all programs have load lists
-pub versions_stop : (setting : Setting) (told : Option World) (before after : ℕ) (faces : List Face) (programs : List Program) (runs : List Run) (stop : ReplayStop) → WhereTold told (λ world. AllZip (IsListFor setting world faces) programs runs) → IsFirstUnmetRun faces runs stop → IsBuildStop setting told before after programs stop
+pub versions_stop : (setting : Setting) (told : Option World) (before after : ℕ) (faces : List Face) (programs : List Start) (runs : List Run) (stop : ReplayStop) → WhereTold told (λ world. AllZip (IsListFor setting world faces) programs runs) → IsFirstUnmetRun faces runs stop → IsBuildStop setting told before after programs stop
 versions_stop setting told before after faces programs runs stop lists h = record {
   refused = λ world t. version_refused setting world faces programs runs (lists world t) stop h;
   read = λ r. absurd (h.stops.unread r);
 }
 
 -- how a stop is answered
-pub stop_answers : (setting : Setting) (before after : View World) (programs : List Program) (stop : ReplayStop) → IsBuildStop setting before.told before.faults after.faults programs stop → IsLoadsAnswer setting before after programs (Err (stop_of_replay stop))
+pub stop_answers : (setting : Setting) (before after : View World) (programs : List Start) (stop : ReplayStop) → IsBuildStop setting before.told before.faults after.faults programs stop → IsLoadsAnswer setting before after programs (Err (stop_of_replay stop))
 stop_answers setting before after programs (LoadsTo (NoProgram p)) h = h.refused
 stop_answers setting before after programs (LoadsTo (MissingLibrary name by)) h = h.refused
 stop_answers setting before after programs (LoadsTo (RelativeNeed name by)) h = h.refused

@@ -11,7 +11,7 @@ use Rattle.load_model.specs.declared.runs.Obj.{Obj}
 use Rattle.load_model.specs.declared.runs.Run.{Run}
 use Rattle.load_model.specs.declared.setting.Setting.{Setting}
 use Rattle.load_model.specs.declared.world.WorldFile.{WorldFile}
-use Rattle.build_runs.specs.declared.programs.Program.{Program}
+use Rattle.build_runs.specs.declared.programs.Start.{Start}
 
 -- The places of the faces of all objects, by run and load order.
 abbrev pub places_in : List Obj → List ℕ
@@ -26,12 +26,12 @@ IsTableInOrder faces runs = face_places runs ≡ up_to (length faces)
 
 module _ (setting : Setting) (world : World) where
   -- The run is the load list of the program over these faces, and its versions are met.
-  pub record IsRunFor (faces : List Face) (program : Program) (run : Run) : Type 0 where
+  pub record IsRunFor (faces : List Face) (program : Start) (run : Run) : Type 0 where
     pub loads : Loads face_or_flaw setting world faces program.path program.opens run
     pub met : first_unmet faces run ≡ None
 
   -- Each program has its run over the faces, which are those of the objects, in order.
-  pub record AreRuns (programs : List Program) (faces : List Face) (runs : List Run) : Type 0 where
+  pub record AreRuns (programs : List Start) (faces : List Face) (runs : List Run) : Type 0 where
     pub each : AllZip (IsRunFor faces) programs runs
     pub in_order : IsTableInOrder faces runs
 

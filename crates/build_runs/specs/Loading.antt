@@ -15,22 +15,22 @@ use Rattle.load_requests.specs.declared.stops.LoadStop.{LoadStop}
 use Rattle.loader_replay.specs.Answering.{IsReadStop, replay_refusal_of}
 use Rattle.loader_replay.specs.declared.stops.ReplayStop.{ReplayStop}
 use Rattle.build_runs.specs.FirstStops.{HasLoadList, IsFirstStop, LoadStops, StopsFirst}
-use Rattle.build_runs.specs.declared.programs.Program.{Program}
+use Rattle.build_runs.specs.declared.programs.Start.{Start}
 
 -- What is known over every tree of a run whose versions are not checked.
-pub record IsSafeList (faces : List Face) (program : Program) (run : Run) : Type 0 where
+pub record IsSafeList (faces : List Face) (program : Start) (run : Run) : Type 0 where
   pub over : IsRunOver faces run
   pub loaders : HasSmallLoaders run
   pub opens : run.opens ≡ program.opens
 
 -- The run is the load list of the program over these faces.
-abbrev pub IsListFor : Setting → World → List Face → Program → Run → Type 0
+abbrev pub IsListFor : Setting → World → List Face → Start → Run → Type 0
 IsListFor setting world faces program run =
     Loads face_or_flaw setting world faces program.path program.opens run
 
 -- A stop of the load lists: what it refuses is the first, and where a read failed the count of
 -- faults rose.
-pub record IsLoadsStop (setting : Setting) (before after : OpenerView) (programs : List Program)
+pub record IsLoadsStop (setting : Setting) (before after : OpenerView) (programs : List Start)
     (stop : LoadStop) : Type 0 where
   pub refused : WhereTold before.told (λ world. IsRefusedBy (StopsFirst (HasLoadList setting world)
       (LoadStops setting world) programs) (refusal_of stop))
@@ -38,7 +38,7 @@ pub record IsLoadsStop (setting : Setting) (before after : OpenerView) (programs
 
 -- The same of load lists and versions, over what is told and what the counts of faults are.
 pub record IsBuildStop (setting : Setting) (told : Option World) (before after : ℕ)
-    (programs : List Program) (stop : ReplayStop) : Type 0 where
+    (programs : List Start) (stop : ReplayStop) : Type 0 where
   pub refused : WhereTold told
       (λ world. IsRefusedBy (IsFirstStop setting world programs) (replay_refusal_of stop))
   pub read : IsReadStop stop → Rose before after

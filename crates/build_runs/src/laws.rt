@@ -3,7 +3,7 @@
 ghost use Rattle.std.specs.Prelude.{◌≡◌, ℕ, List, Some, slice_get};
 ghost use Rattle.build_runs.specs.BuildRuns.{AreRuns, IsFileIn};
 ghost use Rattle.build_runs.specs.FirstStops.{IsFirstStop};
-ghost use Rattle.build_runs.specs.declared.programs.Program.{Program};
+ghost use Rattle.build_runs.specs.declared.programs.Start.{Start};
 ghost use Rattle.load_model.specs.World.{World};
 ghost use Rattle.load_model.specs.declared.faces.Face.{Face};
 ghost use Rattle.load_model.specs.declared.refusals.LoadRefusal.{LoadRefusal};
@@ -13,7 +13,7 @@ ghost use Rattle.load_model.specs.declared.setting.Setting.{Setting};
 
 /// In a world programs have at most one table of faces, and at most one list of runs.
 pub fn at_most_one_build()
-    ensures { (setting : Setting) (world : World) (programs : List Program)
+    ensures { (setting : Setting) (world : World) (programs : List Start)
         (faces others : List Face) (runs other_runs : List Run)
         → AreRuns setting world programs faces runs
         → AreRuns setting world programs others other_runs
@@ -22,7 +22,7 @@ pub fn at_most_one_build()
 
 /// Programs that have runs have no stop.
 pub fn runs_or_a_stop()
-    ensures { (setting : Setting) (world : World) (programs : List Program) (faces : List Face)
+    ensures { (setting : Setting) (world : World) (programs : List Start) (faces : List Face)
         (runs : List Run) (refusal : LoadRefusal)
         → AreRuns setting world programs faces runs
         → IsFirstStop setting world programs refusal
@@ -31,7 +31,7 @@ pub fn runs_or_a_stop()
 
 /// Each object of the runs is a file of the world.
 pub fn objects_are_files()
-    ensures { (setting : Setting) (world : World) (programs : List Program) (faces : List Face)
+    ensures { (setting : Setting) (world : World) (programs : List Start) (faces : List Face)
         (runs : List Run) (k j : ℕ) (run : Run) (x : Obj)
         → AreRuns setting world programs faces runs
         → slice_get runs k ≡ Some run

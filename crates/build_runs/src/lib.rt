@@ -14,5 +14,5 @@ mod stops;
 
 pub use laws::{at_most_one_build, objects_are_files, runs_or_a_stop};
 pub use loading::{LoadedRuns, load_all};
-pub use programs::Program;
+pub use programs::Start;
 pub use stops::LoadsStop;

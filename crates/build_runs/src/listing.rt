@@ -8,7 +8,7 @@ ghost use Rattle.answers.specs.Told.{WhereTold};
 ghost use Rattle.build_runs.specs.Loading.{IsListFor, IsLoadsStop, IsSafeList};
 ghost use Rattle.load_model.specs.Opening.{OnlyGrew};
 
-use crate::programs::Program;
+use crate::programs::Start;
 use load_model::{Opener, Run, Setting};
 use load_order::{LoadStop, load};
 use std::alloc::Global;
@@ -19,7 +19,7 @@ pub fn load_runs<P: Opener>(
     alloc: Global,
     opener: &mut P,
     setting: &Setting,
-    programs: &[Program],
+    programs: &[Start],
 ) -> Result<Vec<Run>, LoadStop>
     requires { (P.seen opener.old).machine ≡ setting.now.machine }
     ensures safe { IfOk result

@@ -15,7 +15,7 @@ ghost use Rattle.ports.specs.View.{OnlyReads};
 use crate::checking::check_runs;
 use crate::listing::load_runs;
 use crate::ordering::put_in_order;
-use crate::programs::Program;
+use crate::programs::Start;
 use crate::stops::{LoadsStop, stop_of_replay};
 use load_model::{List, Opener, Run, Setting};
 use loader_replay::ReplayStop;
@@ -37,7 +37,7 @@ pub fn load_all<T: Tree>(
     alloc: Global,
     tree: &mut T,
     setting: &Setting,
-    programs: &[Program],
+    programs: &[Start],
 ) -> Result<LoadedRuns, LoadsStop>
     ensures answer { IsLoadsAnswer setting.now (T.seen tree.old) (T.seen tree.new) programs.now
         result }
@@ -64,7 +64,7 @@ fn load_over<T: Tree>(
     opener: &mut TreeOpener,
     tree: &mut T,
     setting: &Setting,
-    programs: &[Program],
+    programs: &[Start],
 ) -> Result<Vec<Run>, ReplayStop>
     requires { opener.old.machine ≡ setting.now.machine }
     ensures machine { opener.new.machine ≡ opener.old.machine }
@@ -89,7 +89,7 @@ fn load_in_view<T: Tree>(
     alloc: Global,
     view: &mut TreeView<'_, '_, T>,
     setting: &Setting,
-    programs: &[Program],
+    programs: &[Start],
 ) -> Result<Vec<Run>, ReplayStop>
     requires { view.old.opener.now.machine ≡ setting.now.machine }
     ensures same_opener { view.new.opener.ghost_name ≡ view.old.opener.ghost_name }
@@ -112,7 +112,7 @@ fn load_checked<P: Opener>(
     alloc: Global,
     opener: &mut P,
     setting: &Setting,
-    programs: &[Program],
+    programs: &[Start],
 ) -> Result<Vec<Run>, ReplayStop>
     requires { (P.seen opener.old).machine ≡ setting.now.machine }
     ensures safe { IfOk result

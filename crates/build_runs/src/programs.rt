@@ -5,7 +5,7 @@ use path_text::Abs;
 
 /// A program, and the names that it opens, in order.
 #[derive(Drop)]
-pub struct Program {
+pub struct Start {
     pub path: Abs,
     pub opens: List<Name>,
 }

@@ -7,7 +7,7 @@ use Rattle.std.proofs.lemmas.List.Elements.{All-map}
 use Rattle.app_config.specs.declared.config.Config.{Config}
 use Rattle.build_runs.proofs.ZipLemmas.{zip_count, zip_right}
 use Rattle.build_runs.specs.Answering.{IsSafeRun}
-use Rattle.build_runs.specs.declared.programs.Program.{Program as Start}
+use Rattle.build_runs.specs.declared.programs.Start.{Start}
 use Rattle.load_model.specs.Runs.{IsRunOver}
 use Rattle.load_model.specs.declared.faces.Face.{Face}
 use Rattle.bind_report.specs.Report.{report_text}
