@@ -1,5 +1,5 @@
 -- What packing a program comes to, from the files that are built; and it is one of its outcomes alone.
-use Rattle.std.proofs.Common.{ℕ, List, [], ◌≡◌, All, refl, sym, ap, subst, ◌∙◌, length, Some, None, Result, Ok, Err}
+use Rattle.std.proofs.Common.{List, [], ◌≡◌, All, refl, sym, ap, subst, ◌∙◌, length, Some, Ok, Err}
 use Rattle.std.proofs.lemmas.List.Elements.{All-nil, All-cons}
 use Rattle.std.proofs.lemmas.Slice.Zip.{AllZip-long}
 use Rattle.app_config.specs.declared.config.Config.{Config}

@@ -2,7 +2,6 @@
 use Rattle.std.proofs.Common.{ℕ, List, [], ◌∷◌, ◌++◌, ◌≡◌, All, refl, sym, subst, ap, ◌∙◌, Option, Some, None, Result, Ok, Err, IfOk, IfSome}
 use Rattle.std.proofs.lemmas.List.Elements.{All-head, All-tail}
 use Rattle.std.specs.Option.{option_to_list}
-use Rattle.answers.specs.Told.{WhereTold}
 use Rattle.app_config.specs.Settings.{setting_of}
 use Rattle.build_plan.specs.Refusals.{stop_of_loads}
 use Rattle.build_plan.specs.Steps.{IsStepAnswer}

@@ -1,5 +1,5 @@
 -- A program whose whole load list is on the list of names loads the same on every host that carries its copy.
-use Rattle.std.proofs.Common.{ℕ, List, [], ◌∷◌, ◌++◌, Bool, true, false, cond, Option, Some, None, Ok, ◌≡◌, option_map, refl, ◌∙◌, ap, subst}
+use Rattle.std.proofs.Common.{ℕ, List, [], ◌∷◌, Bool, true, false, cond, Option, Some, None, ◌≡◌, option_map, refl, ◌∙◌, ap, subst}
 use Rattle.std.specs.Prelude.{All, codes}
 use Rattle.std.specs.List.{list_all, list_any}
 use Rattle.std.specs.Str.{bytes_eq}
@@ -9,7 +9,6 @@ use Rattle.path_text.specs.FileName.{IsFileName, is_file_name_text}
 use Rattle.path_text.proofs.NameLemmas.{IsFileName-from_test}
 use Rattle.load_model.specs.Faces.{face_or_flaw}
 use Rattle.load_model.specs.LoadList.{Loaded}
-use Rattle.load_model.specs.Loads.{IsLoadList}
 use Rattle.load_model.specs.World.{World}
 use Rattle.load_model.specs.declared.world.WorldFile.{WorldFile}
 use Rattle.load_model.proofs.SameNamesLemmas.{loads_alike}
@@ -18,7 +17,6 @@ use Rattle.app_config.specs.Names.{default_names, names_or_default}
 use Rattle.app_config.specs.Settings.{default_setting}
 use Rattle.appdir_cli.specs.TwoWorlds.{IsPackable, RunsAlike, RunsOnHosts}
 use Rattle.appdir_cli.specs.Words.{command_of, is_unshaped, path_told, quick_asked, quick_of, quick_with, shape_of, show_asked, show_of}
-use Rattle.appdir_cli.specs.declared.words.Command.{Command}
 use Rattle.appdir_cli.specs.declared.words.Command.TheVariants.{Quick as AsksQuick, Show as AsksShow}
 use Rattle.appdir_cli.specs.declared.words.Quick.{Quick}
 use Rattle.appdir_cli.specs.declared.words.Show.{Show}

@@ -1,5 +1,5 @@
 -- What `quick` comes to: the directory of one program, or the first refusal.
-use Rattle.std.specs.Prelude.{ℕ, List, ◌≡◌, Some, Result, Ok, Err, length}
+use Rattle.std.specs.Prelude.{◌≡◌, Some, Result, Ok, Err, length}
 use Rattle.app_config.specs.Configs.{quick_config_of}
 use Rattle.app_config.specs.declared.config.Config.{Config}
 use Rattle.appdir_build.specs.Outcome.{Outcome, Package}

@@ -1,5 +1,5 @@
 -- A packed program on another host: what must hold of the host, and what a loader then loads there.
-use Rattle.std.specs.Prelude.{ℕ, List, [], ◌∷◌, ◌++◌, ◌≡◌, true, Option, Some, codes}
+use Rattle.std.specs.Prelude.{ℕ, List, [], ◌≡◌, true, Option, Some, codes}
 use Rattle.byte_view.specs.declared.constants.TheConstants.{EM_X86_64}
 use Rattle.load_model.specs.Faces.{face_or_flaw}
 use Rattle.load_model.specs.LoadList.{Loaded}
