@@ -37,8 +37,20 @@ pub fn outcome_of<P: Opener>(
     requires { (P.seen opener.old).machine ≡ setting.now.machine }
 {
     let runs = runs_of(alloc, opener, setting, programs)?;
-    match split(alloc, opener.faces(), runs.as_slice(), names) {
-        Ok(split) => named(alloc, opener.faces(), runs.as_slice(), split, names),
+    outcome_of_runs(alloc, opener.faces(), runs.as_slice(), names)
+}
+
+/// What these load lists come to.
+fn outcome_of_runs(
+    alloc: Global,
+    faces: &[Face],
+    runs: &[Run],
+    names: &[Name],
+) -> Result<Outcome, Fault>
+    requires { All (IsRunOver faces.now) runs.now }
+{
+    match split(alloc, faces, runs, names) {
+        Ok(split) => named(alloc, faces, runs, split, names),
         Err(stop) => Ok(Outcome::Clash(stop)),
     }
 }
@@ -66,7 +78,7 @@ fn named(
 fn open_file_names(runs: &[Run]) -> bool
     ensures { result ≡ list_all (λ run. list_all is_file_name_text run.opens) runs.now }
 {
-    runs.iter().all(opens_file_names)
+    runs.iter().all(|run| opens_file_names(run))
 }
 
 /// Whether the opened names of a program are file names.
