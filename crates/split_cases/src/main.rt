@@ -54,16 +54,39 @@ fn run_case(rt: &HostRuntime, case: &Value) -> io::Result<()> {
 /// The lines of a case that wants others, of the split or else of the names.
 fn differing(alloc: Global, value: &Value) -> Result<Option<Vec<u8>>, Fault> {
     let build = BuildCase::of(value)?;
-    let case = build.files_alone();
-    let outcome = outcome(alloc, &build, &case)?;
-    let text = outcome_lines(alloc, &outcome)?;
-    if let Some(text) = unwanted(alloc, text, &case)? {
-        return Ok(Some(text));
+    let outcome = outcome(alloc, &build, &build.files_alone())?;
+    unwanted_lines(alloc, &build, &outcome)
+}
+
+fn unwanted_lines(
+    alloc: Global,
+    build: &BuildCase<'_>,
+    outcome: &Outcome,
+) -> Result<Option<Vec<u8>>, Fault> {
+    match unwanted_split(alloc, build, outcome) {
+        Ok(None) if !build.layout.is_empty() => unwanted_names(alloc, build, outcome),
+        answer => answer,
     }
-    if build.layout.is_empty() {
-        return Ok(None);
-    }
-    unwanted(alloc, layout_lines(alloc, &outcome)?, &build.layout_alone())
+}
+
+/// The lines of the split, unless they are wanted.
+fn unwanted_split(
+    alloc: Global,
+    build: &BuildCase<'_>,
+    outcome: &Outcome,
+) -> Result<Option<Vec<u8>>, Fault> {
+    let text = outcome_lines(alloc, outcome)?;
+    unwanted(alloc, text, &build.files_alone())
+}
+
+/// The lines of the names, unless they are wanted.
+fn unwanted_names(
+    alloc: Global,
+    build: &BuildCase<'_>,
+    outcome: &Outcome,
+) -> Result<Option<Vec<u8>>, Fault> {
+    let text = layout_lines(alloc, outcome)?;
+    unwanted(alloc, text, &build.layout_alone())
 }
 
 /// The text, unless it is the wanted one.
