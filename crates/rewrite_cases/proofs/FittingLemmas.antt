@@ -4,13 +4,11 @@ use Rattle.std.specs.Prelude.{slice_index_or}
 use Rattle.std.specs.List.{list_all}
 use Rattle.std.specs.Str.{bytes_eq}
 use Rattle.std.proofs.lemmas.Bool.Decides.{nat_tests}
-use Rattle.load_model.proofs.TwoWorlds.{same_bytes}
-use Rattle.load_model.specs.Faces.{face_of}
+use Rattle.std.proofs.lemmas.Slice.Eq.{bytes_eq-Decides}
 use Rattle.load_model.specs.declared.faces.Face.{Face}
 use Rattle.elf_rewrite.specs.FittingFace.{FitsFace}
-use Rattle.elf_rewrite.specs.NewFile.{Fits, is_name_or_none, is_name_text}
+use Rattle.elf_rewrite.specs.NewFile.{is_name_or_none, is_name_text}
 use Rattle.elf_rewrite.specs.declared.change.Change.{Change}
-use Rattle.elf_rewrite.proofs.FaceFitsLemmas.{face_fits}
 use Rattle.rewrite_cases.specs.FittingChange.{is_fitting, is_one_text}
 
 both : (a b : Bool) → (a && b) ≡ true → (a ≡ true) × (b ≡ true)
@@ -19,7 +17,7 @@ both false b e = absurd (cc)
 
 all_one : (t : List ℕ) (xs : List (List ℕ)) (i : ℕ) → list_all (λ s. bytes_eq s t) xs ≡ true → i < length xs → slice_index_or xs i [] ≡ t
 all_one t [] i h low = absurd (omega arith)
-all_one t (x ∷ xs) zero h low = same_bytes x t (both (bytes_eq x t) (list_all (λ s. bytes_eq s t) xs) h).0
+all_one t (x ∷ xs) zero h low = (bytes_eq-Decides x t).0 (both (bytes_eq x t) (list_all (λ s. bytes_eq s t) xs) h).0
 all_one t (x ∷ xs) (suc i) h low = all_one t xs i (both (bytes_eq x t) (list_all (λ s. bytes_eq s t) xs) h).1 (omega arith)
 
 same_number : (m n : ℕ) → (m == n) ≡ true → m ≡ n
