@@ -4,5 +4,8 @@
 
 #[cfg(test)]
 mod listing;
+mod samples;
 #[cfg(test)]
 mod writing;
+
+pub use samples::{BYTES, items, write_into};
