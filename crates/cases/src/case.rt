@@ -26,14 +26,15 @@ impl<'a> Document<'a> {
 }
 
 /// The names of a case's fields.
-const FIELDS: [&str; 10] = [
+const FIELDS: [&str; 11] = [
     "name",
     "words",
     "world",
     "absent",
     "files",
-    "each_table",
     "chain",
+    "written",
+    "each_table",
     "finished",
     "failing",
     "wants",
@@ -43,17 +44,10 @@ const FIELDS: [&str; 10] = [
 #[derive(Clone, Copy)]
 pub struct Case<'a> {
     pub words: &'a [Value],
-    /// The files of its world, but for those at the paths `absent`.
-    pub shared: &'a [Value],
-    pub absent: &'a [Value],
-    pub files: &'a [Value],
-    /// Whether it is run once for each way in which objects have hash tables, and the tables of
-    /// this run.
+    pub files: Files<'a>,
+    pub written: Option<Written<'a>>,
+    /// Whether it is run once for each way in which objects have hash tables.
     pub each_table: bool,
-    pub tables: HashTables,
-    /// How many libraries there are in a chain, `/usr/local/lib/lib0.so` and on, of which each
-    /// needs the next. Their numbers are their identities.
-    pub chain: u64,
     /// The paths of the files that the folder holds at first.
     pub finished: &'a [Value],
     pub failing: &'a [Value],
@@ -61,21 +55,81 @@ pub struct Case<'a> {
 }
 
 impl<'a> Case<'a> {
-    pub fn of(worlds: &'a [Value], value: &'a Value) -> Result<Case<'a>, Fault> {
+    pub fn of(document: &Document<'a>, value: &'a Value) -> Result<Case<'a>, Fault> {
         let row = Row::of(value, FIELDS.as_slice())?;
         Ok(Case {
             words: row.list("words")?,
-            shared: files_of_world(worlds, row.text_if_any("world")?)?,
-            absent: row.list("absent")?,
-            files: row.list("files")?,
+            files: Files::of(document.worlds, &row)?,
+            written: written_of(document, value)?,
             each_table: row.flag("each_table")?,
-            tables: HashTables::AsShaped,
-            chain: row.number_if_any("chain")?.unwrap_or(0),
             finished: row.list("finished")?,
             failing: row.list("failing")?,
             wants: Wants::of(row.value("wants")?)?,
         })
     }
+}
+
+/// The files of a tree.
+#[derive(Clone, Copy)]
+pub struct Files<'a> {
+    /// Those of a world, but for those at the paths `absent`.
+    pub shared: &'a [Value],
+    pub absent: &'a [Value],
+    pub own: &'a [Value],
+    /// How many libraries there are in a chain, `/usr/local/lib/lib0.so` and on, of which each
+    /// needs the next. Their numbers are their identities.
+    pub chain: u64,
+    /// The hash tables of objects.
+    pub tables: HashTables,
+}
+
+impl<'a> Files<'a> {
+    fn of(worlds: &'a [Value], row: &Row<'a>) -> Result<Files<'a>, Fault> {
+        Ok(Files {
+            shared: files_of_world(worlds, row.text_if_any("world")?)?,
+            absent: row.list("absent")?,
+            own: row.list("files")?,
+            chain: row.number_if_any("chain")?.unwrap_or(0),
+            tables: HashTables::AsShaped,
+        })
+    }
+}
+
+/// What another case writes, and the place in the tree where it lies.
+#[derive(Clone, Copy)]
+pub struct Written<'a> {
+    pub words: &'a [Value],
+    pub files: Files<'a>,
+    pub at: &'a str,
+}
+
+impl<'a> Written<'a> {
+    fn of(document: &Document<'a>, value: &'a Value) -> Result<Written<'a>, Fault> {
+        let row = Row::of(value, &["by", "at"])?;
+        let writer = writer_of(document.cases, row.text("by")?)?;
+        Ok(Written {
+            words: writer.list("words")?,
+            files: Files::of(document.worlds, &writer)?,
+            at: row.text("at")?,
+        })
+    }
+}
+
+fn written_of<'a>(document: &Document<'a>, value: &'a Value) -> Result<Option<Written<'a>>, Fault> {
+    match value.get("written") {
+        Some(written) => Ok(Some(Written::of(document, written)?)),
+        None => Ok(None),
+    }
+}
+
+/// The case of a name.
+fn writer_of<'a>(cases: &'a [Value], name: &str) -> Result<Row<'a>, Fault> {
+    for case in cases {
+        if name_of(case) == name {
+            return Row::of(case, FIELDS.as_slice());
+        }
+    }
+    Err(Fault::Field("by"))
 }
 
 /// The name of a case.

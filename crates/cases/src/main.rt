@@ -35,19 +35,19 @@ fn run_table(rt: &HostRuntime, table: &Table) -> io::Result<()> {
 
 fn run_document(rt: &HostRuntime, document: &Document<'_>) -> io::Result<()> {
     for case in document.cases {
-        run_case(rt, document.worlds, case)?;
+        run_case(rt, document, case)?;
     }
     println!(rt; "{} cases", document.cases.len())?;
     for case in document.turns {
-        run_turns(rt, document.worlds, case)?;
+        run_turns(rt, document, case)?;
     }
     Ok(())
 }
 
 /// Runs a case, and prints it where it differs.
-fn run_case(rt: &HostRuntime, worlds: &[Value], case: &Value) -> io::Result<()> {
+fn run_case<'a>(rt: &HostRuntime, document: &Document<'a>, case: &'a Value) -> io::Result<()> {
     let name = name_of(case);
-    match differing(rt.alloc(), worlds, case) {
+    match differing(rt.alloc(), document, case) {
         Ok(None) => Ok(()),
         Ok(Some(ending)) => print_ending(rt, name, &ending),
         Err(fault) => println!(rt; "{name}: {fault}"),
@@ -55,13 +55,17 @@ fn run_case(rt: &HostRuntime, worlds: &[Value], case: &Value) -> io::Result<()> 
 }
 
 /// How a case ends that wants to end otherwise, with the first hash tables with which it does.
-fn differing(alloc: Global, worlds: &[Value], case: &Value) -> Result<Option<Ending>, Fault> {
-    let mut case = Case::of(worlds, case)?;
+fn differing<'a>(
+    alloc: Global,
+    document: &Document<'a>,
+    case: &'a Value,
+) -> Result<Option<Ending>, Fault> {
+    let mut case = Case::of(document, case)?;
     if !case.each_table {
         return differing_with(alloc, &case);
     }
     for tables in EACH_WAY {
-        case.tables = tables;
+        case.files.tables = tables;
         if let Some(ending) = differing_with(alloc, &case)? {
             return Ok(Some(ending));
         }
@@ -95,9 +99,9 @@ fn print_files(rt: &HostRuntime, files: &[MemFile]) -> io::Result<()> {
 }
 
 /// Lets each call of a case fail in turn, and prints how many calls of each method there were.
-fn run_turns(rt: &HostRuntime, worlds: &[Value], case: &Value) -> io::Result<()> {
+fn run_turns<'a>(rt: &HostRuntime, document: &Document<'a>, case: &'a Value) -> io::Result<()> {
     let name = name_of(case);
-    match Case::of(worlds, case) {
+    match Case::of(document, case) {
         Ok(case) => {
             print!(rt; "{name}:")?;
             print_turns(rt, &case)

@@ -1,8 +1,8 @@
 //! The tree, the folder and the sink of a case, and the call.
 
-use crate::case::{Case, Failing, File, Method};
+use crate::case::{Case, Failing, File, Files, Method, Written};
 use appdir_cli::{Status, appdir_main};
-use case_files::{bytes_of, library_of};
+use case_files::{HashTables, bytes_of, library_of};
 use case_rows::{Fault, text_of};
 use load_model::{Name, NoMemory};
 use path_text::{Abs, Rel};
@@ -61,11 +61,11 @@ fn texts_of(alloc: Global, values: &[Value]) -> Result<Vec<String>, Fault> {
     Ok(texts)
 }
 
-/// The file of the tree at a path.
-pub fn source<'a>(case: &Case<'a>, path: &str) -> Result<File<'a>, Fault> {
-    match file_at(case.files, path)? {
+/// The file at a path.
+pub fn source<'a>(files: &Files<'a>, path: &str) -> Result<File<'a>, Fault> {
+    match file_at(files.own, path)? {
         Some(file) => Ok(file),
-        None => match file_at(case.shared, path)? {
+        None => match file_at(files.shared, path)? {
             Some(file) => Ok(file),
             None => Err(Fault::Field("bytes_of")),
         },
@@ -83,25 +83,55 @@ fn file_at<'a>(files: &'a [Value], path: &str) -> Result<Option<File<'a>>, Fault
 }
 
 fn tree_of(alloc: Global, case: &Case<'_>) -> Result<MemTree, Fault> {
-    let mut tree = MemTree::new(alloc)?;
-    add_files(alloc, &mut tree, case, case.shared, case.absent)?;
-    add_files(alloc, &mut tree, case, case.files, &[])?;
-    add_chain(alloc, &mut tree, case.chain)?;
+    let mut tree = tree_with(alloc, &case.files)?;
+    if let Some(written) = &case.written {
+        add_written(alloc, &mut tree, written)?;
+    }
     Ok(tree)
 }
 
-/// Adds files of a case, but for those at the paths `absent`.
+/// A tree with these files alone.
+fn tree_with(alloc: Global, files: &Files<'_>) -> Result<MemTree, Fault> {
+    let mut tree = MemTree::new(alloc)?;
+    add_files(alloc, &mut tree, files.shared, files.absent, files.tables)?;
+    add_files(alloc, &mut tree, files.own, &[], files.tables)?;
+    add_chain(alloc, &mut tree, files.chain)?;
+    Ok(tree)
+}
+
+/// Calls the program over the files of another case, and adds those that it finishes.
+fn add_written(alloc: Global, tree: &mut MemTree, written: &Written<'_>) -> Result<(), Fault> {
+    let mut outside = Outside {
+        tree: tree_with(alloc, &written.files)?,
+        out: MemOut::new(alloc)?,
+        sink: MemSink::new(alloc)?,
+    };
+    call(alloc, written.words, &mut outside)?;
+    for file in outside.out.finished() {
+        let path = format!(in alloc; "{}/{}", written.at, file.path.as_str())?;
+        add(
+            alloc,
+            tree,
+            path.as_str(),
+            path.as_str(),
+            file.bytes.as_bytes(),
+        )?;
+    }
+    Ok(())
+}
+
+/// Adds files, but for those at the paths `absent`.
 fn add_files(
     alloc: Global,
     tree: &mut MemTree,
-    case: &Case<'_>,
     files: &[Value],
     absent: &[Value],
+    tables: HashTables,
 ) -> Result<(), Fault> {
     for file in files {
         let file = File::of(file)?;
         if !are_texts_with(absent, file.path)? {
-            let bytes = bytes_of(alloc, file.bytes, case.tables)?;
+            let bytes = bytes_of(alloc, file.bytes, tables)?;
             add(alloc, tree, file.path, file.id, bytes.as_slice())?;
         }
     }

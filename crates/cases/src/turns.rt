@@ -37,11 +37,12 @@ pub fn ending_of(
 /// wants to.
 pub fn turns_of(alloc: Global, case: &Case<'_>, method: Method) -> Result<Turns, Fault> {
     for number in 1..MOST_CALLS {
-        let ending = ending_of(alloc, case, Some(Failing { method, number }))?;
+        let failing = Failing { method, number };
+        let ending = ending_of(alloc, case, Some(failing))?;
         if is_as_wanted(alloc, case, &ending)? {
             return Ok(Turns::Failed(number.saturating_sub(1)));
         }
-        if !is_cut_off(alloc, case, method, &ending)? {
+        if !is_cut_off(alloc, case, failing, &ending)? {
             return Ok(Turns::Otherwise(number));
         }
     }
@@ -62,15 +63,18 @@ fn status_of(method: Method) -> Status {
 fn is_cut_off(
     alloc: Global,
     case: &Case<'_>,
-    method: Method,
+    failing: Failing,
     ending: &Ending,
 ) -> Result<bool, Fault> {
     let is_silent = ending.outside.sink.bytes().is_empty();
-    let is_ended = ending.status == status_of(method) && is_silent;
-    let is_place = match method {
+    let is_ended = ending.status == status_of(failing.method) && is_silent;
+    let is_place = match failing.method {
         Method::Probe | Method::Root => is_before_root(case, ending),
         Method::ReadAt => is_before_root(case, ending) || is_amid_files(case, ending),
-        Method::Begin | Method::Append | Method::Finish => is_amid_files(case, ending),
+        Method::Append => is_amid_files(case, ending),
+        Method::Begin | Method::Finish => {
+            is_amid_files(case, ending) && is_behind(case, ending, failing.number)
+        }
         Method::Put => is_behind_files(case, ending),
     };
     Ok(is_ended && is_place && are_first_wanted(alloc, case, ending.finished())?)
@@ -87,6 +91,15 @@ fn is_before_root(case: &Case<'_>, ending: &Ending) -> bool {
 fn is_amid_files(case: &Case<'_>, ending: &Ending) -> bool {
     is_root(ending.roots(case), case.wants.root)
         && ending.finished().len() < case.wants.finished.len()
+}
+
+/// Whether the files before that of this number, from 1, were finished, and no others. Each is begun
+/// and finished once.
+fn is_behind(case: &Case<'_>, ending: &Ending, number: u64) -> bool {
+    ending.finished().len() as u64
+        == number
+            .saturating_sub(1)
+            .saturating_add(case.finished.len() as u64)
 }
 
 /// Whether the wanted root was opened, and all files were finished.
