@@ -46,8 +46,10 @@ pub struct Case<'a> {
     pub words: &'a [Value],
     pub files: Files<'a>,
     pub written: Option<Written<'a>>,
-    /// Whether it is run once for each way in which objects have hash tables.
+    /// Whether it is run once for each way in which objects have hash tables, and the tables of
+    /// this run.
     pub each_table: bool,
+    pub tables: HashTables,
     /// The paths of the files that the folder holds at first.
     pub finished: &'a [Value],
     pub failing: &'a [Value],
@@ -62,6 +64,7 @@ impl<'a> Case<'a> {
             files: Files::of(document.worlds, &row)?,
             written: written_of(document, value)?,
             each_table: row.flag("each_table")?,
+            tables: HashTables::AsShaped,
             finished: row.list("finished")?,
             failing: row.list("failing")?,
             wants: Wants::of(row.value("wants")?)?,
@@ -79,8 +82,6 @@ pub struct Files<'a> {
     /// How many libraries there are in a chain, `/usr/local/lib/lib0.so` and on, of which each
     /// needs the next. Their numbers are their identities.
     pub chain: u64,
-    /// The hash tables of objects.
-    pub tables: HashTables,
 }
 
 impl<'a> Files<'a> {
@@ -90,7 +91,6 @@ impl<'a> Files<'a> {
             absent: row.list("absent")?,
             own: row.list("files")?,
             chain: row.number_if_any("chain")?.unwrap_or(0),
-            tables: HashTables::AsShaped,
         })
     }
 }

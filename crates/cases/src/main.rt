@@ -65,7 +65,7 @@ fn differing<'a>(
         return differing_with(alloc, &case);
     }
     for tables in EACH_WAY {
-        case.files.tables = tables;
+        case.tables = tables;
         if let Some(ending) = differing_with(alloc, &case)? {
             return Ok(Some(ending));
         }

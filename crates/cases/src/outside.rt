@@ -83,18 +83,18 @@ fn file_at<'a>(files: &'a [Value], path: &str) -> Result<Option<File<'a>>, Fault
 }
 
 fn tree_of(alloc: Global, case: &Case<'_>) -> Result<MemTree, Fault> {
-    let mut tree = tree_with(alloc, &case.files)?;
+    let mut tree = tree_with(alloc, &case.files, case.tables)?;
     if let Some(written) = &case.written {
         add_written(alloc, &mut tree, written)?;
     }
     Ok(tree)
 }
 
-/// A tree with these files alone.
-fn tree_with(alloc: Global, files: &Files<'_>) -> Result<MemTree, Fault> {
+/// A tree with these files alone, whose objects have these hash tables.
+fn tree_with(alloc: Global, files: &Files<'_>, tables: HashTables) -> Result<MemTree, Fault> {
     let mut tree = MemTree::new(alloc)?;
-    add_files(alloc, &mut tree, files.shared, files.absent, files.tables)?;
-    add_files(alloc, &mut tree, files.own, &[], files.tables)?;
+    add_files(alloc, &mut tree, files.shared, files.absent, tables)?;
+    add_files(alloc, &mut tree, files.own, &[], tables)?;
     add_chain(alloc, &mut tree, files.chain)?;
     Ok(tree)
 }
@@ -102,7 +102,7 @@ fn tree_with(alloc: Global, files: &Files<'_>) -> Result<MemTree, Fault> {
 /// Calls the program over the files of another case, and adds those that it finishes.
 fn add_written(alloc: Global, tree: &mut MemTree, written: &Written<'_>) -> Result<(), Fault> {
     let mut outside = Outside {
-        tree: tree_with(alloc, &written.files)?,
+        tree: tree_with(alloc, &written.files, HashTables::AsShaped)?,
         out: MemOut::new(alloc)?,
         sink: MemSink::new(alloc)?,
     };

@@ -1,6 +1,6 @@
 //! How a case ended, and how it wants to end.
 
-use crate::case::{Case, Files, WantedFile};
+use crate::case::{Case, WantedFile};
 use crate::outside::{Outside, source};
 use appdir_cli::{Status, status_name};
 use case_files::{bytes_of, has_pieces};
@@ -85,7 +85,7 @@ fn is_wanted(
             && is_length(bytes, wanted.length)
             && is_text(bytes, wanted.text)
             && is_hex(alloc, bytes, wanted.hex)?
-            && is_copy(alloc, &case.files, bytes, wanted.bytes_of)?
+            && is_copy(alloc, case, bytes, wanted.bytes_of)?
             && has_pieces(alloc, bytes, wanted.pieces)?,
     )
 }
@@ -117,13 +117,13 @@ fn is_hex(alloc: Global, bytes: &[u8], digits: Option<&str>) -> Result<bool, Fau
 /// Whether bytes are those of the file of the tree at a path, if there is one.
 fn is_copy(
     alloc: Global,
-    files: &Files<'_>,
+    case: &Case<'_>,
     bytes: &[u8],
     path: Option<&str>,
 ) -> Result<bool, Fault> {
     match path {
         Some(path) => Ok(
-            bytes == bytes_of(alloc, source(files, path)?.bytes, files.tables)?.as_slice(),
+            bytes == bytes_of(alloc, source(&case.files, path)?.bytes, case.tables)?.as_slice(),
         ),
         None => Ok(true),
     }
