@@ -27,8 +27,8 @@ fn refused(alloc: Global, first: &[u8], second: &[u8]) -> Result<Option<(u8, Rel
     }
     match list(alloc, items, 1, 2) {
         Ok(_) => Ok(None),
-        Err(ListStop::TargetInLib(path)) => Ok(Some((47, path))),
-        Err(ListStop::TargetClash(path)) => Ok(Some((48, path))),
+        Err(ListStop::TargetInLib(path)) => Ok(Some((48, path))),
+        Err(ListStop::TargetClash(path)) => Ok(Some((47, path))),
         Err(ListStop::NoMemory) => Err(NoMemory),
     }
 }
@@ -37,35 +37,35 @@ fn refused(alloc: Global, first: &[u8], second: &[u8]) -> Result<Option<(u8, Rel
 fn targets_that_are_refused(rt: HostRuntime) {
     let table = [
         (b"a".as_slice(), b"b".as_slice(), 0, b"".as_slice()),
-        (b"a".as_slice(), b"a".as_slice(), 48, b"a".as_slice()),
+        (b"a".as_slice(), b"a".as_slice(), 47, b"a".as_slice()),
         (
             b"usr/lib".as_slice(),
             b"usr/lib/x/y".as_slice(),
-            48,
+            47,
             b"usr/lib/x/y".as_slice(),
         ),
         (
             b"usr/lib/x/y".as_slice(),
             b"usr/lib".as_slice(),
-            48,
+            47,
             b"usr/lib".as_slice(),
         ),
         (
             b"AppRun".as_slice(),
             b"usr/lib/libc.so.6".as_slice(),
-            47,
+            48,
             b"usr/lib/libc.so.6".as_slice(),
         ),
         (
             b"usr/lib".as_slice(),
             b"usr/lib/x".as_slice(),
-            47,
+            48,
             b"usr/lib/x".as_slice(),
         ),
         (
             b"usr/lib/x".as_slice(),
             b"usr/lib/x/y".as_slice(),
-            48,
+            47,
             b"usr/lib/x/y".as_slice(),
         ),
         (
