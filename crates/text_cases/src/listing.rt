@@ -11,14 +11,19 @@ use toml::Value;
 /// The list of a row that is to have another.
 pub fn differing_list(alloc: Global, value: &Value) -> Result<Option<Text>, Fault> {
     let row = Row::of(value, &["name", "files", "lines"])?;
-    let items = items_of(alloc, row.list("files")?)?;
-    let text = manifest_text(alloc, items.as_slice())?;
     let wanted = joined_lines(alloc, row.list("lines")?)?;
+    let text = list_of(alloc, &row)?;
     if text.as_bytes() == wanted.as_slice() {
         Ok(None)
     } else {
         Ok(Some(text))
     }
+}
+
+/// The list of the files of a row.
+fn list_of(alloc: Global, row: &Row<'_>) -> Result<Text, Fault> {
+    let items = items_of(alloc, row.list("files")?)?;
+    Ok(manifest_text(alloc, items.as_slice())?)
 }
 
 fn joined_lines(alloc: Global, lines: &[Value]) -> Result<Vec<u8>, Fault> {
@@ -41,22 +46,31 @@ fn items_of(alloc: Global, files: &[Value]) -> Result<Vec<Item>, Fault> {
 fn item_of(alloc: Global, value: &Value) -> Result<Item, Fault> {
     let row = Row::of(value, &["path", "executable", "bytes", "from", "length"])?;
     let executable = row.flag("executable")?;
-    let body = body_of(alloc, &row)?;
+    let path = path_of(alloc, &row)?;
+    Ok(Item {
+        path,
+        executable,
+        body: body_of(alloc, &row)?,
+    })
+}
+
+/// Where the file lies in the directory.
+fn path_of(alloc: Global, row: &Row<'_>) -> Result<Rel, Fault> {
     match Rel::read(alloc, row.text("path")?.as_bytes()) {
-        Ok(path) => Ok(Item {
-            path,
-            executable,
-            body,
-        }),
+        Ok(path) => Ok(path),
         Err(_) => Err(Fault::Field("path")),
     }
 }
 
 /// Bytes at hand, or the length of a file that is copied.
 fn body_of(alloc: Global, row: &Row<'_>) -> Result<Body, Fault> {
-    if let Some(bytes) = row.text_if_any("bytes")? {
-        return Ok(Body::Bytes(Text::from_bytes(alloc, bytes.as_bytes())?));
+    match row.text_if_any("bytes")? {
+        Some(bytes) => Ok(Body::Bytes(Text::from_bytes(alloc, bytes.as_bytes())?)),
+        None => copy_of(alloc, row),
     }
+}
+
+fn copy_of(alloc: Global, row: &Row<'_>) -> Result<Body, Fault> {
     let len = row.number("length")?;
     match Abs::read(alloc, row.text("from")?.as_bytes()) {
         Ok(from) => Ok(Body::Copy { from, len }),

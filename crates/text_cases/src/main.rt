@@ -11,7 +11,7 @@ use evidence::Evidence;
 use listing::differing_list;
 use load_model::Text;
 use reading::refusal_of;
-use refusals::refusal_text;
+use refusals::{Refusal, refusal_text};
 use std::alloc::Global;
 use std::io;
 use toml::{Table, Value};
@@ -78,12 +78,26 @@ fn name_of<'a>(row: &'a Value, field: &str) -> &'a str {
 /// The line of a refusal that is to have another.
 fn differing_line(alloc: Global, value: &Value) -> Result<Option<Text>, Fault> {
     let row = Row::of(value, &["kind", "texts", "numbers", "line"])?;
-    let evidence = Evidence::of(&row)?;
-    let refusal = refusal_of(alloc, row.text("kind")?, &evidence)?;
-    let line = refusal_text(alloc, &refusal)?;
-    if line.as_bytes().strip_suffix(b"\n") == Some(row.text("line")?.as_bytes()) {
+    let wanted = row.text("line")?;
+    let line = line_of(alloc, &row)?;
+    if line.as_bytes().strip_suffix(b"\n") == Some(wanted.as_bytes()) {
         Ok(None)
     } else {
         Ok(Some(line))
     }
+}
+
+/// The line of the refusal of a row.
+fn line_of(alloc: Global, row: &Row<'_>) -> Result<Text, Fault> {
+    let evidence = Evidence::of(row)?;
+    let kind = row.text("kind")?;
+    match refusal_of(alloc, kind, &evidence) {
+        Ok(refusal) => said(alloc, &refusal),
+        Err(fault) => Err(fault),
+    }
+}
+
+/// The line that says a refusal.
+fn said(alloc: Global, refusal: &Refusal) -> Result<Text, Fault> {
+    Ok(refusal_text(alloc, refusal)?)
 }

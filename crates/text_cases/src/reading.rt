@@ -2,21 +2,32 @@
 
 use crate::evidence::Evidence;
 use case_rows::Fault;
+use path_text::Abs;
 use refusals::{FileRefusal, FolderRefusal, NameRefusal, Refusal, RewriteRefusal, SplitRefusal};
 use std::alloc::Global;
 
 /// The refusal with this name.
 pub fn refusal_of(alloc: Global, kind: &str, evidence: &Evidence<'_>) -> Result<Refusal, Fault> {
-    if let Some(refusal) = split_of(alloc, kind, evidence)? {
-        return Ok(Refusal::Split(refusal));
+    match split_of(alloc, kind, evidence)? {
+        Some(refusal) => Ok(Refusal::Split(refusal)),
+        None => later_of(alloc, kind, evidence),
     }
-    if let Some(refusal) = name_of(alloc, kind, evidence)? {
-        return Ok(Refusal::Names(refusal));
+}
+
+/// One that comes after the split.
+fn later_of(alloc: Global, kind: &str, evidence: &Evidence<'_>) -> Result<Refusal, Fault> {
+    match name_of(alloc, kind, evidence)? {
+        Some(refusal) => Ok(Refusal::Names(refusal)),
+        None => last_of(alloc, kind, evidence),
     }
-    if let Some(refusal) = rewrite_of(alloc, kind, evidence)? {
-        return Ok(Refusal::Rewrite(refusal));
+}
+
+/// One that comes after the names.
+fn last_of(alloc: Global, kind: &str, evidence: &Evidence<'_>) -> Result<Refusal, Fault> {
+    match rewrite_of(alloc, kind, evidence)? {
+        Some(refusal) => Ok(Refusal::Rewrite(refusal)),
+        None => other_of(alloc, kind, evidence),
     }
-    other_of(alloc, kind, evidence)
 }
 
 fn split_of(
@@ -24,35 +35,56 @@ fn split_of(
     kind: &str,
     evidence: &Evidence<'_>,
 ) -> Result<Option<SplitRefusal>, Fault> {
-    let path = evidence.path(alloc, 0);
-    Ok(Some(match kind {
-        "NoInterpreter" => SplitRefusal::NoInterpreter(path?),
-        "InterpreterUnlisted" => SplitRefusal::InterpreterUnlisted(path?),
-        "ProgramNeeded" => SplitRefusal::ProgramNeeded(path?),
-        "HostRpath" => SplitRefusal::HostRpath(path?),
-        "HostNeedsUnlisted" => { SplitRefusal::HostNeedsUnlisted(path?, evidence.name(alloc, 1)?) }
-        "HostAlias" => SplitRefusal::HostAlias(path?, evidence.name(alloc, 1)?),
-        "HostNameClash" => host_name_clash(alloc, evidence)?,
-        "SplitNeed" => split_need(alloc, evidence)?,
-        _ => return Ok(None),
-    }))
+    match kind {
+        "NoInterpreter" | "InterpreterUnlisted" | "ProgramNeeded" | "HostRpath" => {
+            Ok(Some(of_a_file(kind, evidence.path(alloc, 0)?)))
+        }
+        "HostNeedsUnlisted" | "HostAlias" => of_a_need(alloc, kind, evidence),
+        "HostNameClash" => host_name_clash(alloc, evidence),
+        "SplitNeed" => split_need(alloc, evidence),
+        _ => Ok(None),
+    }
 }
 
-fn host_name_clash(alloc: Global, evidence: &Evidence<'_>) -> Result<SplitRefusal, Fault> {
-    Ok(SplitRefusal::HostNameClash(
+/// A refusal of a program or a library alone.
+fn of_a_file(kind: &str, path: Abs) -> SplitRefusal {
+    match kind {
+        "NoInterpreter" => SplitRefusal::NoInterpreter(path),
+        "InterpreterUnlisted" => SplitRefusal::InterpreterUnlisted(path),
+        "ProgramNeeded" => SplitRefusal::ProgramNeeded(path),
+        _ => SplitRefusal::HostRpath(path),
+    }
+}
+
+/// A refusal of what a host library needs.
+fn of_a_need(
+    alloc: Global,
+    kind: &str,
+    evidence: &Evidence<'_>,
+) -> Result<Option<SplitRefusal>, Fault> {
+    let path = evidence.path(alloc, 0)?;
+    let name = evidence.name(alloc, 1)?;
+    match kind {
+        "HostAlias" => Ok(Some(SplitRefusal::HostAlias(path, name))),
+        _ => Ok(Some(SplitRefusal::HostNeedsUnlisted(path, name))),
+    }
+}
+
+fn host_name_clash(alloc: Global, evidence: &Evidence<'_>) -> Result<Option<SplitRefusal>, Fault> {
+    Ok(Some(SplitRefusal::HostNameClash(
         evidence.name(alloc, 0)?,
         evidence.path(alloc, 1)?,
         evidence.path(alloc, 2)?,
-    ))
+    )))
 }
 
-fn split_need(alloc: Global, evidence: &Evidence<'_>) -> Result<SplitRefusal, Fault> {
-    Ok(SplitRefusal::SplitNeed(
+fn split_need(alloc: Global, evidence: &Evidence<'_>) -> Result<Option<SplitRefusal>, Fault> {
+    Ok(Some(SplitRefusal::SplitNeed(
         evidence.path(alloc, 0)?,
         evidence.name(alloc, 1)?,
         evidence.path(alloc, 2)?,
         evidence.path(alloc, 3)?,
-    ))
+    )))
 }
 
 fn name_of(
@@ -60,31 +92,34 @@ fn name_of(
     kind: &str,
     evidence: &Evidence<'_>,
 ) -> Result<Option<NameRefusal>, Fault> {
-    let name = evidence.name(alloc, 0);
-    Ok(Some(match kind {
-        "OpenAlias" => NameRefusal::OpenAlias(name?, evidence.name(alloc, 1)?),
-        "OpenNameOnHostList" => NameRefusal::OpenNameOnHostList(name?),
-        "TwoOpenNames" => two_open_names(alloc, evidence)?,
-        "NameClash" => name_clash(alloc, evidence)?,
-        "BadFileName" => NameRefusal::BadFileName(name?),
-        _ => return Ok(None),
-    }))
+    match kind {
+        "OpenAlias" => open_alias(alloc, evidence),
+        "OpenNameOnHostList" => Ok(Some(NameRefusal::OpenNameOnHostList(evidence.name(alloc, 0)?))),
+        "TwoOpenNames" => two_open_names(alloc, evidence),
+        "NameClash" => name_clash(alloc, evidence),
+        "BadFileName" => Ok(Some(NameRefusal::BadFileName(evidence.name(alloc, 0)?))),
+        _ => Ok(None),
+    }
 }
 
-fn two_open_names(alloc: Global, evidence: &Evidence<'_>) -> Result<NameRefusal, Fault> {
-    Ok(NameRefusal::TwoOpenNames(
+fn open_alias(alloc: Global, evidence: &Evidence<'_>) -> Result<Option<NameRefusal>, Fault> {
+    Ok(Some(NameRefusal::OpenAlias(evidence.name(alloc, 0)?, evidence.name(alloc, 1)?)))
+}
+
+fn two_open_names(alloc: Global, evidence: &Evidence<'_>) -> Result<Option<NameRefusal>, Fault> {
+    Ok(Some(NameRefusal::TwoOpenNames(
         evidence.path(alloc, 0)?,
         evidence.name(alloc, 1)?,
         evidence.name(alloc, 2)?,
-    ))
+    )))
 }
 
-fn name_clash(alloc: Global, evidence: &Evidence<'_>) -> Result<NameRefusal, Fault> {
-    Ok(NameRefusal::NameClash(
+fn name_clash(alloc: Global, evidence: &Evidence<'_>) -> Result<Option<NameRefusal>, Fault> {
+    Ok(Some(NameRefusal::NameClash(
         evidence.name(alloc, 0)?,
         evidence.path(alloc, 1)?,
         evidence.path(alloc, 2)?,
-    ))
+    )))
 }
 
 fn rewrite_of(
@@ -92,17 +127,27 @@ fn rewrite_of(
     kind: &str,
     evidence: &Evidence<'_>,
 ) -> Result<Option<RewriteRefusal>, Fault> {
-    let path = evidence.path(alloc, 0);
-    Ok(Some(match kind {
-        "NoRoom" => RewriteRefusal::NoRoom(path?),
-        "TableOverlap" => {
-            RewriteRefusal::TableOverlap(evidence.byte(0)?, evidence.byte(1)?, path?)
-        }
-        "TooManyHeaders" => RewriteRefusal::TooManyHeaders(path?),
-        "TooLarge" => RewriteRefusal::TooLarge(path?, evidence.number(0)?),
-        "StringsTooLong" => RewriteRefusal::StringsTooLong(path?),
-        _ => return Ok(None),
-    }))
+    match kind {
+        "NoRoom" => Ok(Some(RewriteRefusal::NoRoom(evidence.path(alloc, 0)?))),
+        "TableOverlap" => table_overlap(alloc, evidence),
+        "TooManyHeaders" => Ok(Some(RewriteRefusal::TooManyHeaders(evidence.path(alloc, 0)?))),
+        "TooLarge" => too_large(alloc, evidence),
+        "StringsTooLong" => Ok(Some(RewriteRefusal::StringsTooLong(evidence.path(alloc, 0)?))),
+        _ => Ok(None),
+    }
+}
+
+fn table_overlap(alloc: Global, evidence: &Evidence<'_>) -> Result<Option<RewriteRefusal>, Fault> {
+    let one = evidence.byte(0)?;
+    let other = evidence.byte(1)?;
+    let path = evidence.path(alloc, 0)?;
+    Ok(Some(RewriteRefusal::TableOverlap(one, other, path)))
+}
+
+fn too_large(alloc: Global, evidence: &Evidence<'_>) -> Result<Option<RewriteRefusal>, Fault> {
+    let len = evidence.number(0)?;
+    let path = evidence.path(alloc, 0)?;
+    Ok(Some(RewriteRefusal::TooLarge(path, len)))
 }
 
 /// A refusal of files or of a folder.
