@@ -18,9 +18,10 @@ pub const BYTES: &[u8] = b"0123456";
 pub fn items<T: Tree>(alloc: Global, tree: &mut T) -> Result<List<Item>, NoMemory>
     ensures { IfOk result (All (IsProbed (T.seen tree.new).told)) }
 {
-    let mut items = copies(alloc, tree)?;
-    push_bytes(alloc, &mut items, b"d", BYTES)?;
-    push_bytes(alloc, &mut items, b"e", b"")?;
+    let mut items = List::new(alloc);
+    add_copies(alloc, &mut items, tree)?;
+    add_bytes(alloc, &mut items, b"d", BYTES)?;
+    add_bytes(alloc, &mut items, b"e", b"")?;
     Ok(items)
 }
 
@@ -41,30 +42,31 @@ pub fn write_into<T: Tree, O: OutDir>(
     }
 }
 
-/// Copies of the three files.
-fn copies<T: Tree>(alloc: Global, tree: &mut T) -> Result<List<Item>, NoMemory>
-    ensures { IfOk result (All (IsProbed (T.seen tree.new).told)) }
+/// Adds copies of the three files.
+fn add_copies<T: Tree>(alloc: Global, items: &mut List<Item>, tree: &mut T) -> Result<(), NoMemory>
+    ensures { OnOk result (All (IsProbed (T.seen tree.old).told) items.old
+        → All (IsProbed (T.seen tree.new).told) items.new) }
 {
-    let mut items = List::new(alloc);
-    'files: for (from, to) in [
-        (b"/none".as_slice(), b"a".as_slice()),
-        (b"/seven".as_slice(), b"b".as_slice()),
-        (b"/eight".as_slice(), b"c".as_slice()),
-    ] {
-        let item = copied(alloc, tree, from, to)?;
-        items.push(item)?;
-    }
-    Ok(items)
+    add_copy(alloc, items, tree, b"/none", b"a")?;
+    add_copy(alloc, items, tree, b"/seven", b"b")?;
+    add_copy(alloc, items, tree, b"/eight", b"c")?;
+    Ok(())
 }
 
-/// An item that copies the file at a path of the tree.
-#[tactic(auto, using(crate::proofs::ProbedLemmas::body_probed))]
-fn copied<T: Tree>(alloc: Global, tree: &mut T, from: &[u8], to: &[u8]) -> Result<Item, NoMemory>
-    ensures probed { IfOk result (IsProbed (T.seen tree.old).told) }
-    ensures only_reads { OnlyReads (T.seen tree.old) (T.seen tree.new) }
+/// Adds an item that copies the file at a path of the tree.
+fn add_copy<T: Tree>(
+    alloc: Global,
+    items: &mut List<Item>,
+    tree: &mut T,
+    from: &[u8],
+    to: &[u8],
+) -> Result<(), NoMemory>
+    ensures { OnOk result (All (IsProbed (T.seen tree.old).told) items.old
+        → All (IsProbed (T.seen tree.new).told) items.new) }
 {
     let body = copy_of(alloc, tree, from)?;
-    item(alloc, to, true, body)
+    add(alloc, items, to, true, body)?;
+    Ok(())
 }
 
 /// The body that copies the file at a path of the tree.
@@ -82,26 +84,28 @@ fn copy_of<T: Tree>(alloc: Global, tree: &mut T, path: &[u8]) -> Result<Body, No
 }
 
 /// Adds an item of these bytes.
-fn push_bytes(
-    alloc: Global,
-    items: &mut List<Item>,
-    to: &[u8],
-    bytes: &[u8],
-) -> Result<(), NoMemory>
+fn add_bytes(alloc: Global, items: &mut List<Item>, to: &[u8], bytes: &[u8]) -> Result<(), NoMemory>
     ensures { OnOk result ((told : Option World) → All (IsProbed told) items.old
         → All (IsProbed told) items.new) }
 {
-    let item = at_hand(alloc, to, bytes)?;
-    items.push(item)
+    let text = Text::from_bytes(alloc, bytes)?;
+    add(alloc, items, to, false, Body::Bytes(text))?;
+    Ok(())
 }
 
-/// An item of these bytes.
-#[tactic(auto, using(crate::proofs::ProbedLemmas::body_probed))]
-fn at_hand(alloc: Global, to: &[u8], bytes: &[u8]) -> Result<Item, NoMemory>
-    ensures { IfOk result (λ item. (told : Option World) → IsProbed told item) }
+/// Adds an item.
+fn add(
+    alloc: Global,
+    items: &mut List<Item>,
+    to: &[u8],
+    executable: bool,
+    body: Body,
+) -> Result<(), NoMemory>
+    ensures { OnOk result ((told : Option World) → IsBodyProbed told body
+        → All (IsProbed told) items.old → All (IsProbed told) items.new) }
 {
-    let text = Text::from_bytes(alloc, bytes)?;
-    item(alloc, to, false, Body::Bytes(text))
+    items.push(item(alloc, to, executable, body)?)?;
+    Ok(())
 }
 
 fn item(alloc: Global, path: &[u8], executable: bool, body: Body) -> Result<Item, NoMemory>
