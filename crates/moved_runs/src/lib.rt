@@ -1,0 +1,9 @@
+//! The same run of a program in another place, where each need is renamed to the name of the object
+//! that it went to: laws of the definitions in `specs/`, with no code.
+#![tactic(auto)]
+
+mod core_laws;
+
+pub use core_laws::{
+    known_exactly, moved_run, named_target, same_loaders, same_local_lists, same_phases,
+};
