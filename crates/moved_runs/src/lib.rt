@@ -3,7 +3,9 @@
 #![tactic(auto)]
 
 mod core_laws;
+mod place_laws;
 
 pub use core_laws::{
     known_exactly, moved_run, named_target, same_loaders, same_local_lists, same_phases,
 };
+pub use place_laws::{apart_directories, moved_load_list, moved_search};
