@@ -3,3 +3,10 @@ pub mod MovedPartLemmas
 pub mod PlaceLemmas
 pub mod SearchLemmas
 pub mod MovingLemmas
+pub mod ListLemmas
+pub mod RunLemmas
+pub mod OfferLemmas
+pub mod BindLemmas
+pub mod PhaseLemmas
+pub mod VersionLemmas
+pub mod SameRunLemmas

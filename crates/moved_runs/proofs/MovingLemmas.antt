@@ -195,7 +195,7 @@ module _ (read : List ℕ → Result Face Flaw) (setting : Setting) (world : Wor
         | inr u ↦ apart.1 u
       ]
 
-  different : (i j : ℕ) (x y : Object) → slice_get objs_there i ≡ Some x → slice_get objs_there j ≡ Some y → x.id ≡ y.id → i ≡ j
+  pub different : (i j : ℕ) (x y : Object) → slice_get objs_there i ≡ Some x → slice_get objs_there j ≡ Some y → x.id ≡ y.id → i ≡ j
   different i j x y gi gj same =
       elim (each_there i x gi) [
         | inl w ↦ elim (each_there j y gj) [

@@ -1,3 +1,5 @@
 pub mod Moved
 pub mod Placed
 pub mod Places
+pub mod Alike
+pub mod SameRuns

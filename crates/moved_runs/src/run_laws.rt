@@ -1,0 +1,31 @@
+//! The law of the same run, the contract of a function that does nothing.
+
+ghost use Rattle.std.specs.Prelude.{◌≡◌, ℕ, Bool, List, Result};
+ghost use Rattle.byte_view.specs.declared.flaws.Flaw.{Flaw};
+ghost use Rattle.load_model.specs.LoadList.{Object};
+ghost use Rattle.load_model.specs.Replays.{IsReplay};
+ghost use Rattle.load_model.specs.World.{World};
+ghost use Rattle.load_model.specs.declared.faces.Face.{Face};
+ghost use Rattle.load_model.specs.declared.runs.Replay.{Replay};
+ghost use Rattle.load_model.specs.declared.setting.Setting.{Setting};
+ghost use Rattle.moved_runs.specs.Alike.{IsAlike};
+ghost use Rattle.moved_runs.specs.Moved.{new_names};
+ghost use Rattle.moved_runs.specs.Placed.{Item};
+ghost use Rattle.moved_runs.specs.Places.{IsMoved};
+ghost use Rattle.moved_runs.specs.SameRuns.{RunsSame};
+
+/// A program that runs here runs the same at each place of a world that meets the premises, for any
+/// reader of files, any two worlds and any two settings: its versions are met there, and the two
+/// runs are the same place by place. Each opened name is to be the name of what it went to.
+pub fn moved_program_runs_same()
+    ensures { (read : List ℕ → Result Face Flaw) (setting setting_there : Setting)
+        (here there : World) (path : List ℕ) (opens : List (List ℕ)) (faces : List Face)
+        (replay : Replay) (place : List ℕ) (items : List Item) (name_of : ℕ → List ℕ)
+        (is_bundled : ℕ → Bool) (program : List ℕ) (objs_there : List Object)
+        → (plays : IsReplay read setting here faces path opens replay)
+        → IsMoved read setting_there there place items name_of is_bundled program
+        plays.loads.loaded objs_there
+        → IsAlike faces replay plays.loads.loaded name_of is_bundled objs_there
+        → new_names name_of plays.loads.loaded.log opens ≡ opens
+        → RunsSame read setting_there there place name_of is_bundled program opens faces replay }
+{}
