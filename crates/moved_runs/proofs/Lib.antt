@@ -10,3 +10,5 @@ pub mod BindLemmas
 pub mod PhaseLemmas
 pub mod VersionLemmas
 pub mod SameRunLemmas
+pub mod OpenedLemmas
+pub mod RunPathLemmas

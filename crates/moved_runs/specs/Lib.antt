@@ -3,3 +3,4 @@ pub mod Placed
 pub mod Places
 pub mod Alike
 pub mod SameRuns
+pub mod OpenedThere

@@ -9,5 +9,8 @@ mod run_laws;
 pub use core_laws::{
     known_exactly, moved_run, named_target, same_loaders, same_local_lists, same_phases,
 };
-pub use place_laws::{apart_directories, moved_load_list, moved_search};
+pub use place_laws::{
+    apart_directories, moved_load_list, moved_program_opens_only, moved_search,
+    run_paths_lead_to_libraries,
+};
 pub use run_laws::moved_program_runs_same;
