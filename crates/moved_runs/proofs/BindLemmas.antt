@@ -1,33 +1,29 @@
 -- References of files that are written bind to the same there.
-use Rattle.std.proofs.Common.{◌≡◌, ◌≢◌, ◌∙◌, sym, ap, refl, ℕ, zero, suc, ◌+◌, ◌<◌, List, [], ◌∷◌, ◌++◌, Bool, true, false, cond, Option, Some, None, drop, length, map, filter, slice_get, arith, subst, inl, inr, ◌==◌}
-use Rattle.std.specs.List.{enumerate_from, flat_map}
-use Rattle.std.specs.Option.{option_and_then, option_map, unwrap_or}
+use Rattle.std.proofs.Common.{◌≡◌, ◌∙◌, sym, ap, refl, ℕ, ◌+◌, List, [], ◌∷◌, ◌++◌, Bool, true, false, cond, Option, Some, None, drop, length, map, slice_get, arith, subst, inl, inr}
+use Rattle.std.specs.List.{enumerate_from}
+use Rattle.std.specs.Option.{option_and_then, option_map}
 use Rattle.std.proofs.lemmas.Bool.{cases_Bool}
-use Rattle.std.proofs.lemmas.Option.{slice_get_within}
-use Rattle.answers.specs.First.{first_some}
-use Rattle.load_model.specs.Bindings.{all_binds, bind_of, binds_itself, binds_of_object, binds_of_symbol, bound_by, bound_to, classes_of, first_offer, looked_in, offer_at, offered_by, symbol_at, syms_in, wanted_version}
+use Rattle.load_model.specs.Bindings.{all_binds, bind_of, binds_itself, binds_of_object, binds_of_symbol, bound_by, bound_to, classes_of, first_offer, looked_in, offered_by, symbol_at, syms_in, wanted_version}
 use Rattle.load_model.specs.LoadList.{Loaded, Object, up_to, with_numbers}
 use Rattle.load_model.specs.Offers.{Offered, offer_of}
 use Rattle.load_model.specs.Runs.{IsRunOf, face_at}
-use Rattle.load_model.specs.Scopes.{is_symbolic_face, itself, local_by, local_of, scope_of}
+use Rattle.load_model.specs.Scopes.{is_symbolic_face, itself, local_of, scope_of}
 use Rattle.load_model.specs.SymbolWords.{is_shared}
 use Rattle.load_model.specs.declared.faces.Face.{Face}
 use Rattle.load_model.specs.declared.runs.Bind.{Bind}
 use Rattle.load_model.specs.declared.runs.Def.{Def}
-use Rattle.load_model.specs.declared.runs.Obj.{Obj}
 use Rattle.load_model.specs.declared.runs.Replay.{Replay}
 use Rattle.load_model.specs.declared.runs.Run.{Run}
 use Rattle.load_model.specs.declared.symbols.Class.{Class}
 use Rattle.load_model.specs.declared.symbols.Sym.{Sym}
 use Rattle.load_model.proofs.AskedNeeds.{get_map, map_get}
 use Rattle.load_model.proofs.Machine.{slice_get-drop}
-use Rattle.load_model.proofs.OneRun.{there}
 use Rattle.load_model.proofs.SameListLemmas.{none_too, there_too}
-use Rattle.moved_runs.specs.Alike.{IsAlike, IsLookedIn, IsLookedUp, KeepsSymbols, is_written, version_found}
-use Rattle.moved_runs.specs.SameRuns.{IsSameBound, IsSameDef, IsSameReference, IsSameSymbol}
-use Rattle.moved_runs.proofs.ListLemmas.{flat_in, flat_out, numbered_in, numbered_out}
-use Rattle.moved_runs.proofs.OfferLemmas.{IsSameFirst, IsSameOffer, def_at, defs_by, first_def, offer_named, same_first}
-use Rattle.moved_runs.proofs.RunLemmas.{face_is, face_none, faces_of, obj_at, objs_from, run_at}
+use Rattle.moved_runs.specs.Alike.{IsAlike, IsLookedIn, IsLookedUp, KeepsSymbols, is_written}
+use Rattle.moved_runs.specs.SameRuns.{IsSameBound, IsSameReference, IsSameSymbol}
+use Rattle.moved_runs.proofs.ListLemmas.{flat_in, flat_out, numbered_out}
+use Rattle.moved_runs.proofs.OfferLemmas.{IsSameFirst, IsSameOffer, def_at, first_def, offer_named, same_first}
+use Rattle.moved_runs.proofs.RunLemmas.{face_is, face_none}
 
 -- what a run over its load list says of faces
 pub record IsOver (faces : List Face) (run : Run) (objs : List Object) : Type 0 where

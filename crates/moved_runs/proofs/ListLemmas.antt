@@ -1,5 +1,5 @@
 -- Elements of lists that are made of others, and the first that is there.
-use Rattle.std.proofs.Common.{◌≡◌, ◌∙◌, sym, ap, refl, ℕ, zero, suc, ◌+◌, ◌<◌, List, [], ◌∷◌, ◌++◌, Option, Some, None, length, map, slice_get, arith, inl, inr}
+use Rattle.std.proofs.Common.{◌≡◌, ◌∙◌, sym, ap, refl, ℕ, zero, suc, ◌+◌, List, [], ◌∷◌, Option, Some, None, slice_get, arith, inl, inr}
 use Rattle.std.specs.List.{enumerate_from, flat_map}
 use Rattle.answers.specs.First.{first_some}
 use Rattle.load_model.proofs.Counts.{slice_get-append, slice_get_left}

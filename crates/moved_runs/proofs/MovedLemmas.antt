@@ -4,8 +4,7 @@ use Rattle.std.specs.Str.{bytes_eq}
 use Rattle.std.proofs.lemmas.Bool.{cases_Bool, cases_lt}
 use Rattle.std.proofs.lemmas.List.{append-nil, map-append, take-map, length-take, length-take-le, length-drop, take_all}
 use Rattle.std.proofs.lemmas.Option.{slice_get_within}
-use Rattle.load_model.specs.LoadList.{Object, Request, Asked, Found, Known, Brought, Loaded, Search, count_from, count_after, needs_from, requests_of, WentTo, IsAnswered, IsPhase, IsRunFrom, IsRun, IsEndedFrom, IsEndedRun, is_named, is_known, first_place, found_for}
-use Rattle.load_model.specs.Runs.{target_in}
+use Rattle.load_model.specs.LoadList.{Object, Request, Asked, Found, Known, Brought, Loaded, Search, count_from, count_after, needs_from, requests_of, WentTo, IsAnswered, IsPhase, IsRun, IsEndedFrom, IsEndedRun, is_named, is_known, found_for}
 use Rattle.load_model.proofs.AskedNeeds.{get_map, map_get}
 use Rattle.load_model.proofs.Ended.{run_of_ends}
 use Rattle.load_model.proofs.History.{IsHistory, IsGrown, take_front, at_second, in_front, target_count, count_at, less_answered, run_history, run_grown, phase_size, brought_by, start_history}
@@ -14,7 +13,7 @@ use Rattle.load_model.proofs.OneName.{one_name, first_in}
 use Rattle.load_model.proofs.OneRun.{there}
 use Rattle.load_model.proofs.Places.{slice_get-take, slice_get_front, first_none, first_some}
 use Rattle.load_model.proofs.TwoWorlds.{target_le, known_cases, known_by, brought_new, by_known, by_new, named_some, front_one}
-use Rattle.moved_runs.specs.Moved.{NeverProgram, AreDistinctNames, renamed, all_renamed, new_name, new_names, loaded_there, AreMoved}
+use Rattle.moved_runs.specs.Moved.{renamed, all_renamed, new_name, new_names, loaded_there, AreMoved}
 
 pub same_rest : {X Y Z W : Type 0} (f : X → Y) (g : Y → W) (k : X → Z) (l : Z → W) (xs : List X) → ((m : ℕ) (x : X) → slice_get xs m ≡ Some x → g (f x) ≡ l (k x)) → map g (map f xs) ≡ map l (map k xs)
 same_rest f g k l [] h = refl

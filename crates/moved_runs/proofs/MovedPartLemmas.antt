@@ -5,9 +5,9 @@ use Rattle.std.specs.Option.{unwrap_or}
 use Rattle.std.proofs.lemmas.List.{length-take-le}
 use Rattle.std.proofs.lemmas.Option.{slice_get_within}
 use Rattle.load_model.specs.Candidates.{loader_in}
-use Rattle.load_model.specs.LoadList.{Object, Request, Asked, Found, Loaded, Search, count_from, count_after, IsRun, IsEndedFrom, IsEndedRun, found_for, with_numbers}
-use Rattle.load_model.specs.Runs.{IsLocal, loader_of, need_targets, needs_at, phase_of, reached, start_count, target_in}
-use Rattle.load_model.proofs.AskedNeeds.{get_map, map_get, all_asked, opened_asked}
+use Rattle.load_model.specs.LoadList.{Object, Request, Asked, Found, Loaded, Search, IsRun, IsEndedFrom, IsEndedRun, found_for, with_numbers}
+use Rattle.load_model.specs.Runs.{IsLocal, loader_of, need_targets, needs_at, phase_of, start_count, target_in}
+use Rattle.load_model.proofs.AskedNeeds.{map_get, all_asked, opened_asked}
 use Rattle.load_model.proofs.Ended.{run_of_ends}
 use Rattle.load_model.proofs.History.{IsHistory, IsGrown, target_count, run_grown}
 use Rattle.load_model.proofs.OneName.{one_name, first_in}

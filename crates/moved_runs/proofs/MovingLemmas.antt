@@ -1,19 +1,17 @@
 -- A moved program has its load list at a place.
-use Rattle.std.proofs.Common.{◌≡◌, ◌≢◌, ◌∙◌, sym, ap, refl, ℕ, zero, suc, ◌≤◌, ◌<◌, List, [], ◌∷◌, ◌++◌, Bool, true, false, cond, Option, Some, None, Result, Ok, Err, length, map, take, slice_get, arith, subst, ◌⊎◌, inl, inr, nat_lt}
-use Rattle.std.specs.Prelude.{All, codes}
-use Rattle.std.specs.Str.{bytes_eq}
+use Rattle.std.proofs.Common.{◌≡◌, ◌∙◌, sym, ap, refl, ℕ, zero, suc, ◌≤◌, ◌<◌, List, [], ◌∷◌, ◌++◌, Bool, true, false, cond, Option, Some, None, Result, Ok, length, map, take, slice_get, arith, subst, ◌⊎◌, inl, inr}
+use Rattle.std.specs.Prelude.{codes}
 use Rattle.std.proofs.lemmas.Bool.{cases_Bool}
 use Rattle.std.proofs.lemmas.Option.{slice_get_within}
 use Rattle.byte_view.specs.declared.flaws.Flaw.{Flaw}
 use Rattle.path_text.specs.FileName.{IsFileName}
 use Rattle.path_text.specs.Path.{IsNormalPath}
-use Rattle.load_model.specs.Candidates.{candidate_in, candidates, listed_candidates, loader_in, path_search, refused_text}
+use Rattle.load_model.specs.Candidates.{candidate_in, listed_candidates, loader_in, path_search, refused_text}
 use Rattle.load_model.specs.Joined.{joined}
-use Rattle.load_model.specs.LoadList.{Object, Request, Asked, Found, Brought, Loaded, Search, count_from, count_after, IsAnswered, IsPhase, IsRun, IsEndedFrom, IsEndedRun, by_id, by_name, by_search, first_place, found_for, is_known}
+use Rattle.load_model.specs.LoadList.{Object, Request, Asked, Found, Loaded, count_after, IsPhase, IsEndedFrom, IsEndedRun, found_for}
 use Rattle.load_model.specs.Loads.{IsLoadList, answer_unless, goes_to, program_at, program_by}
 use Rattle.load_model.specs.RunPaths.{Folder}
-use Rattle.load_model.specs.SameNames.{listed_decision}
-use Rattle.load_model.specs.World.{World, Kind, Other, file_at, is_other, kind_of_file, kind_of_read}
+use Rattle.load_model.specs.World.{World, Other, file_at, is_other, kind_of_file, kind_of_read}
 use Rattle.load_model.specs.declared.faces.Face.{Face}
 use Rattle.load_model.specs.declared.limits.TheConstants.{MOST_OBJECTS}
 use Rattle.load_model.specs.declared.refusals.LoadRefusal.{LoadRefusal}
@@ -29,12 +27,12 @@ use Rattle.load_model.proofs.OneRun.{there}
 use Rattle.load_model.proofs.Places.{slice_get-take, slice_get_front}
 use Rattle.load_model.proofs.TwoWorlds.{same_bytes}
 use Rattle.moved_runs.specs.Moved.{AreMoved, all_renamed, loaded_there, new_names, renamed}
-use Rattle.moved_runs.specs.Placed.{HasPath, IsUnder, lib_folder, lib_place}
+use Rattle.moved_runs.specs.Placed.{lib_folder, lib_place}
 use Rattle.moved_runs.specs.Placed.{Item}
 use Rattle.moved_runs.specs.Places.{IsHostFile, IsItem, IsMoved, IsWritten, LeadsToLibs}
 use Rattle.moved_runs.proofs.MovedLemmas.{moved_run, renamed_entry}
 use Rattle.moved_runs.proofs.PlaceLemmas.{dir_under, same_tail, same_target}
-use Rattle.moved_runs.proofs.SearchLemmas.{bare_candidates, bundled_first, decided_at, find_at, found_in, host_first, item_file, led_candidates, search_is}
+use Rattle.moved_runs.proofs.SearchLemmas.{bare_candidates, bundled_first, find_at, found_in, host_first, item_file, led_candidates, search_is}
 
 -- ---- runs by another answer
 

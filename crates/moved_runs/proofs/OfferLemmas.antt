@@ -1,13 +1,11 @@
 -- The first offer of a scope, and what it names.
-use Rattle.std.proofs.Common.{◌≡◌, ◌≢◌, ◌∙◌, sym, ap, refl, ℕ, zero, suc, ◌+◌, ◌<◌, List, [], ◌∷◌, Bool, true, false, cond, Option, Some, None, drop, length, map, slice_get, arith, subst, ◌⊎◌, inl, inr, ◌==◌, ◌&&◌, not, filter}
+use Rattle.std.proofs.Common.{◌≡◌, ◌≢◌, ◌∙◌, sym, ap, refl, ℕ, zero, suc, ◌+◌, ◌<◌, List, [], ◌∷◌, Bool, true, false, cond, Option, Some, None, map, slice_get, arith, ◌⊎◌, inl, inr, ◌&&◌, not}
 use Rattle.std.specs.List.{list_any, position_from}
-use Rattle.std.specs.Option.{option_and_then, option_map}
+use Rattle.std.specs.Option.{option_map}
 use Rattle.std.specs.Str.{bytes_eq}
-use Rattle.std.proofs.lemmas.Bool.{and_parts, cases_Bool}
+use Rattle.std.proofs.lemmas.Bool.{and_parts}
 use Rattle.answers.specs.First.{first_some}
-use Rattle.load_model.specs.Bindings.{offered_by}
 use Rattle.load_model.specs.Offers.{Offered, has_wanted_version, is_accepted, is_candidate, is_early, is_first_version, is_local, is_one, is_open_to, is_shown, offer_of, real_syms}
-use Rattle.load_model.specs.declared.faces.Face.{Face}
 use Rattle.load_model.specs.declared.runs.Def.{Def}
 use Rattle.load_model.specs.declared.symbols.Class.{Class}
 use Rattle.load_model.specs.declared.symbols.Sym.{Sym}

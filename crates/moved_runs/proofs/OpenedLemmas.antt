@@ -1,19 +1,17 @@
 -- What a moved program opens at a place.
-use Rattle.std.proofs.Common.{◌≡◌, ◌≢◌, ◌∙◌, sym, ap, refl, ℕ, zero, suc, ◌≤◌, ◌<◌, List, [], ◌∷◌, ◌++◌, Bool, true, false, cond, Option, Some, None, Result, Ok, length, map, take, slice_get, arith, subst, ◌⊎◌, inl, inr}
+use Rattle.std.proofs.Common.{◌≡◌, ◌∙◌, sym, ap, ℕ, zero, suc, ◌<◌, List, [], ◌∷◌, ◌++◌, Bool, cond, Some, None, Result, length, map, take, slice_get, arith, subst, ◌⊎◌, inl, inr}
 use Rattle.std.specs.Prelude.{All}
 use Rattle.byte_view.specs.declared.flaws.Flaw.{Flaw}
 use Rattle.path_text.specs.FileName.{IsFileName}
 use Rattle.path_text.specs.Path.{IsNormalPath}
-use Rattle.load_model.specs.Candidates.{Candidate, At, IsOpenedIn, candidate_in, candidates, listed_candidates, loader_in, opened_among, opened_by}
-use Rattle.load_model.specs.Deciding.{IsSearchedIn, IsUpToDeciding}
+use Rattle.load_model.specs.Candidates.{Candidate, At, IsOpenedIn, candidates, listed_candidates, loader_in, opened_among, opened_by}
+use Rattle.load_model.specs.Deciding.{IsUpToDeciding}
 use Rattle.load_model.specs.Joined.{joined}
 use Rattle.load_model.specs.LoadList.{Object, Request, Asked, Found, Loaded, count_after}
 use Rattle.load_model.specs.Loads.{IsLoadList, goes_to}
-use Rattle.load_model.specs.RunPaths.{Folder}
 use Rattle.load_model.specs.SameNames.{IsListedUpTo}
-use Rattle.load_model.specs.World.{World, Kind, Absent, Other, Object as IsObject, file_at, is_other, kind_of, kind_of_file, kind_of_read}
+use Rattle.load_model.specs.World.{World, Absent, Other, Object as IsObject, file_at, is_other, kind_of, kind_of_file, kind_of_read}
 use Rattle.load_model.specs.declared.faces.Face.{Face}
-use Rattle.load_model.specs.declared.refusals.LoadRefusal.{LoadRefusal}
 use Rattle.load_model.specs.declared.setting.Setting.{Setting}
 use Rattle.load_model.specs.declared.world.WorldFile.{WorldFile}
 use Rattle.load_model.proofs.DecidingLemmas.{opened_up, run_searched, up_opened}
@@ -25,10 +23,10 @@ use Rattle.load_model.proofs.Places.{slice_get-take, slice_get_front}
 use Rattle.std.proofs.lemmas.List.{take-map}
 use Rattle.moved_runs.specs.Moved.{all_renamed, renamed}
 use Rattle.moved_runs.specs.OpenedThere.{IsHostPath, IsLibPath, MayBeOpened}
-use Rattle.moved_runs.specs.Placed.{HasPath, IsPlaced, Item, lib_folder, lib_place}
-use Rattle.moved_runs.specs.Places.{IsItem, IsMoved, LeadsToLibs}
+use Rattle.moved_runs.specs.Placed.{HasPath, Item, lib_place}
+use Rattle.moved_runs.specs.Places.{IsItem, IsMoved}
 use Rattle.moved_runs.proofs.MovedLemmas.{count_renamed, renamed_entry}
-use Rattle.moved_runs.proofs.MovingLemmas.{IsDone, IsHosted, each_there, no_rpath, runpath_cases}
+use Rattle.moved_runs.proofs.MovingLemmas.{each_there, no_rpath, runpath_cases}
 use Rattle.moved_runs.proofs.SearchLemmas.{bare_candidates, led_candidates, lib_candidate, lib_candidate_cases, nothing_at}
 
 module _ (read : List ℕ → Result Face Flaw) (setting : Setting) (world : World) where

@@ -1,19 +1,19 @@
 -- In which phase an object comes, and which needs and opened names were asked for by then.
-use Rattle.std.proofs.Common.{◌≡◌, ◌∙◌, sym, ap, refl, ℕ, zero, suc, ◌+◌, ◌-◌, ◌≤◌, ◌<◌, List, [], ◌∷◌, ◌++◌, Bool, true, false, cond, Option, Some, None, Result, length, take, drop, map, slice_get, arith, subst, ◌⊎◌, inl, inr, nat_lt}
+use Rattle.std.proofs.Common.{◌≡◌, ◌∙◌, sym, ap, refl, ℕ, zero, suc, ◌+◌, ◌≤◌, ◌<◌, List, [], ◌∷◌, ◌++◌, Bool, true, false, cond, Some, Result, length, take, drop, map, slice_get, arith, subst, ◌⊎◌, inl, inr, nat_lt}
 use Rattle.std.specs.List.{position_from}
 use Rattle.std.specs.Option.{unwrap_or}
 use Rattle.std.proofs.lemmas.Bool.{cases_lt, ltb-true, lt-ltb, both_ways}
-use Rattle.std.proofs.lemmas.List.{append-nil, length-append, take-map}
+use Rattle.std.proofs.lemmas.List.{append-nil, take-map}
 use Rattle.std.proofs.lemmas.Option.{slice_get_within}
-use Rattle.load_model.specs.LoadList.{Object, Request, Asked, Found, Loaded, count_from, count_after, needs_from, requests_of, IsPhase, IsRunFrom, IsRun, IsEndedFrom, IsEndedRun}
+use Rattle.load_model.specs.LoadList.{Object, Request, Asked, Found, Loaded, count_after, needs_from, requests_of, IsPhase, IsRunFrom, IsEndedFrom, IsEndedRun}
 use Rattle.load_model.specs.Runs.{phase_of}
 use Rattle.load_model.proofs.AskedNeeds.{AreAsked, all_asked, get_map, map_get}
 use Rattle.load_model.proofs.Counts.{count_front, slice_get-append}
 use Rattle.load_model.proofs.Ended.{run_of_ends}
-use Rattle.load_model.proofs.History.{IsGrown, at_second, in_front, phase_size, run_grown, slice_get_split}
+use Rattle.load_model.proofs.History.{IsGrown, in_front, phase_size, run_grown, slice_get_split}
 use Rattle.load_model.proofs.Machine.{slice_get-drop}
 use Rattle.load_model.proofs.OneRun.{there}
-use Rattle.load_model.proofs.Places.{slice_get-take, slice_get_front}
+use Rattle.load_model.proofs.Places.{slice_get-take}
 use Rattle.moved_runs.proofs.OfferLemmas.{first_passes}
 
 -- ---- the first place that passes

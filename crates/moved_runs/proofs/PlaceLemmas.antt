@@ -1,12 +1,12 @@
 -- Paths under a place: the folder of libraries, and directories that are apart from the place.
-use Rattle.std.proofs.Common.{ℕ, List, [], ◌∷◌, ◌++◌, Bool, true, false, cond, Some, Ok, ◌≡◌, ◌≢◌, ◌≤◌, ◌⊎◌, refl, sym, ◌∙◌, ap, subst, suc, arith, append_assoc, inl, inr}
-use Rattle.std.specs.Prelude.{All, Contains, IsUtf8, codes}
+use Rattle.std.proofs.Common.{ℕ, List, [], ◌∷◌, ◌++◌, Bool, true, false, cond, ◌≡◌, ◌≢◌, ◌⊎◌, refl, sym, ◌∙◌, ap, subst, suc, arith, append_assoc, inl, inr}
+use Rattle.std.specs.Prelude.{Contains, IsUtf8, codes}
 use Rattle.std.specs.List.{join_with_byte}
 use Rattle.std.specs.Str.{bytes_eq}
 use Rattle.std.proofs.lemmas.Bool.{false_from_ne_true}
 use Rattle.std.proofs.lemmas.List.Elements.{All-weaker}
 use Rattle.std.proofs.lemmas.Str.{IsUtf8-from_is_utf8}
-use Rattle.path_text.specs.Path.{IsNormalPath, path_of, rooted}
+use Rattle.path_text.specs.Path.{IsNormalPath, rooted}
 use Rattle.path_text.specs.FileName.{IsFileName, IsNameByte}
 use Rattle.path_text.proofs.NameLemmas.{IsFileName-from_test}
 use Rattle.path_text.proofs.PathLemmas.{IsNormalPath-path_of, not_contained}

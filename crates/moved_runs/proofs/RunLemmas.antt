@@ -1,10 +1,7 @@
 -- The run there, as the plain type has it: its objects with the numbers of the run here.
-use Rattle.std.proofs.Common.{◌≡◌, ◌∙◌, sym, ap, refl, ℕ, zero, suc, ◌+◌, ◌<◌, List, [], ◌∷◌, Option, Some, None, length, map, slice_get, arith, subst}
-use Rattle.std.specs.Option.{option_and_then, option_map, unwrap_or}
-use Rattle.std.proofs.lemmas.List.{length-map}
-use Rattle.std.proofs.lemmas.Option.{slice_get_within}
+use Rattle.std.proofs.Common.{◌≡◌, ◌∙◌, sym, ap, refl, ℕ, zero, suc, ◌+◌, List, [], ◌∷◌, Some, None, length, map, slice_get, arith, subst}
 use Rattle.load_model.specs.LoadList.{Loaded, Object, up_to}
-use Rattle.load_model.specs.Runs.{IsLocal, IsObjOf, IsRunOf, face_at, face_of_object, loader_of, need_targets, phase_of, start_count, target_in}
+use Rattle.load_model.specs.Runs.{IsLocal, IsObjOf, IsRunOf, face_at, loader_of, need_targets, phase_of, start_count, target_in}
 use Rattle.load_model.specs.VersionCheck.{phase_at}
 use Rattle.load_model.specs.declared.faces.Face.{Face}
 use Rattle.load_model.specs.declared.runs.Obj.{Obj}

@@ -1,6 +1,6 @@
 -- The run paths of programs and libraries lead to the folder of libraries.
-use Rattle.std.proofs.Common.{ℕ, List, [], ◌∷◌, ◌++◌, Bool, true, false, cond, eqb, not, Some, None, Ok, ◌≡◌, ◌≢◌, ◌≤◌, ◌<◌, ◌+◌, ◌-◌, refl, sym, ◌∙◌, ap, subst, suc, fold, length, take, drop, get_or, arith, append_assoc, inl, inr}
-use Rattle.std.specs.Prelude.{All, Contains, IsUtf8, codes}
+use Rattle.std.proofs.Common.{ℕ, List, [], ◌∷◌, ◌++◌, Bool, true, false, cond, eqb, not, ◌≡◌, ◌≢◌, ◌≤◌, ◌<◌, ◌+◌, ◌-◌, refl, sym, ◌∙◌, ap, subst, suc, fold, length, take, drop, get_or, arith, inl, inr}
+use Rattle.std.specs.Prelude.{All, IsUtf8, codes}
 use Rattle.std.specs.List.{flat_map, onto_first}
 use Rattle.std.specs.Str.{bytes_eq, is_utf8}
 use Rattle.std.proofs.lemmas.Bool.{cases_Bool, eqb-false, eqb-true, false_from_ne_true, ne_eqb, or_from}

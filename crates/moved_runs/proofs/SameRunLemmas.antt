@@ -1,18 +1,17 @@
 -- A moved program runs the same.
-use Rattle.std.proofs.Common.{◌≡◌, ◌∙◌, sym, ap, refl, ℕ, zero, suc, ◌+◌, ◌≤◌, ◌<◌, List, [], ◌∷◌, Bool, true, false, cond, Option, Some, None, Result, Ok, length, map, filter, find, slice_get, arith, subst, inl, inr, nat_le}
-use Rattle.std.specs.Option.{option_map, unwrap_or}
+use Rattle.std.proofs.Common.{◌≡◌, ◌∙◌, sym, ap, refl, ℕ, zero, suc, ◌+◌, ◌≤◌, ◌<◌, List, [], ◌∷◌, Bool, true, false, cond, Option, Some, None, Result, length, map, find, slice_get, arith, subst, inl, inr, nat_le}
 use Rattle.std.proofs.lemmas.Bool.{cases_Bool, leb-true}
 use Rattle.std.proofs.lemmas.Option.{slice_get_within}
 use Rattle.byte_view.specs.declared.flaws.Flaw.{Flaw}
 use Rattle.load_model.specs.Bindings.{all_binds}
 use Rattle.load_model.specs.Candidates.{path_search}
 use Rattle.load_model.specs.Joined.{joined}
-use Rattle.load_model.specs.LoadList.{Object, Request, Asked, Found, Loaded, Search, IsRun, IsEndedRun, found_for, up_to}
+use Rattle.load_model.specs.LoadList.{Object, Loaded, Search, IsRun, IsEndedRun, found_for, up_to}
 use Rattle.load_model.specs.Loads.{IsLoadList}
 use Rattle.load_model.specs.Replays.{IsReplay}
-use Rattle.load_model.specs.Runs.{IsRunOf, face_at, need_targets, phase_of, target_in}
+use Rattle.load_model.specs.Runs.{IsRunOf, face_at, phase_of, target_in}
 use Rattle.load_model.specs.Scopes.{local_by, local_of}
-use Rattle.load_model.specs.VersionCheck.{Unmet, FileUnloaded, VersionLacking, defs_in, first_unmet, has_defined, is_known_by, loaded_by, phase_at, unmet, unmet_by, version_file_of}
+use Rattle.load_model.specs.VersionCheck.{Unmet, VersionLacking, defs_in, first_unmet, has_defined, is_known_by, loaded_by, phase_at, unmet, unmet_by, version_file_of}
 use Rattle.load_model.specs.World.{World}
 use Rattle.load_model.specs.declared.asks.Ask.{Ask}
 use Rattle.load_model.specs.declared.faces.Face.{Face}
@@ -25,9 +24,9 @@ use Rattle.load_model.specs.declared.runs.Run.{Run}
 use Rattle.load_model.specs.declared.setting.Setting.{Setting}
 use Rattle.load_model.proofs.Ended.{run_of_ends}
 use Rattle.load_model.proofs.OneRun.{there}
-use Rattle.moved_runs.specs.Alike.{HasVersion, IsAlike, IsOwnAsk, IsReached, IsSameAsk, KeepsSymbols, is_written}
+use Rattle.moved_runs.specs.Alike.{HasVersion, IsAlike, IsReached, is_written}
 use Rattle.moved_runs.specs.Moved.{AreMoved, all_renamed, loaded_there, new_names}
-use Rattle.moved_runs.specs.Placed.{Item, lib_place}
+use Rattle.moved_runs.specs.Placed.{Item}
 use Rattle.moved_runs.specs.Places.{IsMoved}
 use Rattle.moved_runs.specs.SameRuns.{RunsSame, SameRun}
 use Rattle.moved_runs.proofs.BindLemmas.{HaveSameScopes, IsOver, bind_there, is_over}

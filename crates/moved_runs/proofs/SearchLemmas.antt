@@ -1,23 +1,22 @@
 -- What the search for a new name finds at a place: a bundled library in the directory, a host library in the listed directories.
-use Rattle.std.proofs.Common.{◌≡◌, ◌≢◌, ◌∙◌, sym, ap, refl, ℕ, zero, suc, ◌≤◌, ◌<◌, List, [], ◌∷◌, ◌++◌, Bool, true, false, cond, Option, Some, None, Result, Ok, Err, length, map, take, slice_get, arith, subst, ◌⊎◌, inl, inr, ◌==◌}
+use Rattle.std.proofs.Common.{◌≡◌, ◌∙◌, sym, ap, refl, ℕ, suc, List, [], ◌∷◌, ◌++◌, Bool, true, false, cond, Option, Some, None, Result, Ok, Err, length, map, slice_get, ◌⊎◌, inl, inr}
 use Rattle.std.specs.Prelude.{All, IsUtf8}
 use Rattle.std.specs.List.{flat_map}
 use Rattle.std.specs.Str.{bytes_eq, is_utf8}
 use Rattle.std.proofs.lemmas.Bool.{cases_Bool, ne_eqb}
 use Rattle.std.proofs.lemmas.Grind.{flat_map-append}
 use Rattle.std.proofs.lemmas.List.Elements.{All-head}
-use Rattle.std.proofs.lemmas.Option.{slice_get_within}
 use Rattle.std.proofs.lemmas.Str.{IsUtf8-from_is_utf8}
 use Rattle.answers.specs.First.{first_some}
 use Rattle.byte_view.specs.declared.flaws.Flaw.{Flaw}
 use Rattle.path_text.specs.FileName.{IsFileName, IsNameByte}
-use Rattle.path_text.specs.Path.{IsNormalPath, begins_at_root, folder_of, path_of}
+use Rattle.path_text.specs.Path.{IsNormalPath, begins_at_root, path_of}
 use Rattle.path_text.proofs.PathLemmas.{not_utf8}
-use Rattle.load_model.specs.Candidates.{Candidate, At, asker_path, candidate_at, candidate_in, candidates, chain_items, decided_by, decision, first_decision, first_found, found_or, items_by, items_held, listed_candidates, listed_items, loader_chain, loader_in, own_items, path_search, rpath_by, rpath_items, runpath_items, search_items}
+use Rattle.load_model.specs.Candidates.{Candidate, At, asker_path, candidate_at, candidate_in, candidates, chain_items, decided_by, decision, first_decision, first_found, found_or, items_by, items_held, listed_candidates, listed_items, loader_chain, loader_in, own_items, path_search, rpath_by, rpath_items, search_items}
 use Rattle.load_model.specs.Joined.{joined}
-use Rattle.load_model.specs.LoadList.{Object, Request, Asked, Loaded}
-use Rattle.load_model.specs.RunPaths.{Folder, Item as PathItem, items_of}
-use Rattle.load_model.specs.SameNames.{HasNoRunPath, listed_decision}
+use Rattle.load_model.specs.LoadList.{Object, Request, Asked}
+use Rattle.load_model.specs.RunPaths.{Folder}
+use Rattle.load_model.specs.SameNames.{listed_decision}
 use Rattle.load_model.specs.World.{World, Kind, Absent, Other, Object as IsObject, Damaged as IsDamaged, file_at, is_other, kind_of, kind_of_file, kind_of_read}
 use Rattle.load_model.specs.declared.faces.Face.{Face}
 use Rattle.load_model.specs.declared.refusals.LoadRefusal.{LoadRefusal}
@@ -31,7 +30,7 @@ use Rattle.load_model.proofs.ListedLemmas.{mapped_at, listed_cases}
 use Rattle.load_model.proofs.TwoWorlds.{same_bytes}
 use Rattle.moved_runs.specs.Placed.{HasPath, IsPlaced, Item, lib_folder, lib_place}
 use Rattle.moved_runs.specs.Places.{IsItem, LeadsToLibs}
-use Rattle.moved_runs.proofs.PlaceLemmas.{in_libs, lib_is_normal, same_target}
+use Rattle.moved_runs.proofs.PlaceLemmas.{in_libs, lib_is_normal}
 
 -- ---- files of a world
 

@@ -1,23 +1,22 @@
 -- Versions are met there: the file of an ask is the object of its new name, which is known by then.
-use Rattle.std.proofs.Common.{◌≡◌, ◌∙◌, sym, ap, refl, ℕ, zero, suc, ◌+◌, ◌≤◌, ◌<◌, List, [], ◌∷◌, ◌++◌, Bool, true, false, cond, Option, Some, None, Result, length, take, map, filter, find, slice_get, zip, arith, subst, ◌⊎◌, inl, inr, nat_le, ◌==◌, ◌&&◌, ◌||◌}
+use Rattle.std.proofs.Common.{◌≡◌, ◌∙◌, sym, ap, refl, ℕ, zero, suc, ◌+◌, ◌≤◌, ◌<◌, List, [], ◌∷◌, Bool, true, false, cond, Option, Some, None, Result, length, take, map, filter, slice_get, zip, arith, inl, inr, nat_le, ◌==◌, ◌&&◌}
 use Rattle.std.specs.List.{enumerate_from, flat_map, list_any}
-use Rattle.std.specs.Option.{option_and_then, option_map, unwrap_or}
+use Rattle.std.specs.Option.{option_map, unwrap_or}
 use Rattle.std.specs.Str.{bytes_eq}
-use Rattle.std.proofs.lemmas.Bool.{and_from, and_parts, cases_Bool, cases_lt, eq-eqb, eqb-true, false_from_ne_true, le-leb, leb-true, or_cases, or_left, or_right}
+use Rattle.std.proofs.lemmas.Bool.{and_from, and_parts, cases_lt, eq-eqb, eqb-true, false_from_ne_true, le-leb, or_cases, or_right}
 use Rattle.std.proofs.lemmas.Cmp.{nat_list_eq_equiv}
 use Rattle.std.proofs.lemmas.List.{take_all}
 use Rattle.std.proofs.lemmas.Option.{slice_get_within}
-use Rattle.answers.specs.First.{first_some}
 use Rattle.load_model.specs.LoadList.{Object, Request, Asked, Found, Loaded, Search, IsRun, IsEndedRun, count_after, found_for, is_named, up_to}
-use Rattle.load_model.specs.Runs.{IsRunOf, face_at, need_targets, needs_at, phase_of, target_in}
-use Rattle.load_model.specs.VersionCheck.{Unmet, UnmetAsk, FileUnloaded, VersionLacking, asked_by, asks_in, defs_in, first_unmet, has_defined, is_known_by, loaded_by, needs_in, needs_to, phase_at, soname_in, unmet, unmet_at, unmet_by, unmet_of, version_file_of}
+use Rattle.load_model.specs.Runs.{face_at, need_targets, needs_at, phase_of, target_in}
+use Rattle.load_model.specs.VersionCheck.{Unmet, UnmetAsk, VersionLacking, asked_by, asks_in, defs_in, first_unmet, has_defined, is_known_by, loaded_by, needs_in, needs_to, phase_at, soname_in, unmet, unmet_at, unmet_by, unmet_of, version_file_of}
 use Rattle.load_model.specs.declared.asks.Ask.{Ask}
 use Rattle.load_model.specs.declared.faces.Face.{Face}
 use Rattle.load_model.specs.declared.runs.Run.{Run}
 use Rattle.load_model.proofs.AskedNeeds.{get_map, map_get, all_asked, opened_asked}
 use Rattle.load_model.proofs.Counts.{slice_get-append, slice_get_left}
 use Rattle.load_model.proofs.Ended.{run_of_ends}
-use Rattle.load_model.proofs.History.{IsHistory, IsGrown, brought_by, at_second, in_front, target_count}
+use Rattle.load_model.proofs.History.{IsHistory, brought_by, at_second, in_front, target_count}
 use Rattle.load_model.proofs.LesserLemmas.{find-filter, find_first}
 use Rattle.load_model.proofs.NumberLemmas.{length-up_to, number_at}
 use Rattle.load_model.proofs.OneRun.{there}

@@ -1,6 +1,6 @@
 -- What must hold of the objects there, so that references bind and versions are met as here. Host
 -- libraries there are spoken of by what they answer alone.
-use Rattle.std.specs.Prelude.{ℕ, List, [], ◌∷◌, ◌≡◌, ◌≢◌, ◌<◌, ◌==◌, ◌||◌, Bool, true, false, Option, Some, None, slice_get}
+use Rattle.std.specs.Prelude.{ℕ, List, [], ◌∷◌, ◌≡◌, ◌≢◌, ◌<◌, ◌==◌, ◌||◌, Bool, true, false, Option, Some, slice_get}
 use Rattle.std.specs.Option.{option_and_then, option_map}
 use Rattle.load_model.specs.Bindings.{binds_itself, looked_in, offered_by, symbol_at, wanted_version}
 use Rattle.load_model.specs.LoadList.{Object, Loaded}

@@ -1,5 +1,5 @@
 -- A directory that lies at a place of a world: its files as they are, and nothing else.
-use Rattle.std.specs.Prelude.{ℕ, List, ◌∷◌, ◌++◌, ◌≡◌, Some, codes, slice_get}
+use Rattle.std.specs.Prelude.{ℕ, List, ◌++◌, ◌≡◌, Some, codes, slice_get}
 use Rattle.load_model.specs.Joined.{joined}
 use Rattle.load_model.specs.World.{World, file_at}
 use Rattle.load_model.specs.declared.world.WorldFile.{WorldFile}
