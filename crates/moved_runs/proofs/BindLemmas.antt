@@ -133,8 +133,7 @@ module _ (faces faces' : List Face) (replay : Replay) (run' : Run) (loaded : Loa
   host_offer k name version class b (Some i) (Some j) w e f h =
       let s = offer_named (offered_by b.here.face) name version class i e in
       let t = offer_named (offered_by b.there.face) name version class j f in
-      let both : Some (wanted_version t.0.version) ≡ Some (wanted_version s.0.version) = sym (ap (option_map (λ (z : Sym). wanted_version z.version)) t.1) ∙ h ∙ ap (option_map (λ (z : Sym). wanted_version z.version)) s.1 in
-      (
+      let both : Some (wanted_version t.0.version) ≡ Some (wanted_version s.0.version) = sym (ap (option_map (λ (z : Sym). wanted_version z.version)) t.1) ∙ h ∙ ap (option_map (λ (z : Sym). wanted_version z.version)) s.1 in (
         λ no. let c : false ≡ true = sym w ∙ no in cc,
         λ yes. (
           s.0,
@@ -301,8 +300,7 @@ module _ (faces faces' : List Face) (replay : Replay) (run' : Run) (loaded : Loa
       let number_there : slice_get (up_to (length run'.objs)) r.numbered ≡ Some r.j = ap (λ n. slice_get (up_to n) r.numbered) (over'.count ∙ count ∙ sym over.count) ∙ r.number_is in
       let of_all = flat_in (binds_of_object faces' run') (up_to (length run'.objs)) r.numbered of_object.0 r.j c number_there of_object.1 in
       let stands_here : slice_get replay.binds m ≡ Some (bind_of faces run r.j r.entry.0 r.class) = h ∙ ap Some r.bind_is in
-      let paired = same_bound r.j r.entry.0 r.class r.entry.1 written symbol m stands_here in
-      (
+      let paired = same_bound r.j r.entry.0 r.class r.entry.1 written symbol m stands_here in (
         of_all.0,
         c,
         of_all.1,

@@ -71,12 +71,11 @@ module _ (read : List ℕ → Result Face Flaw) (setting : Setting) (world : Wor
   item_kind : (path : List ℕ) (q : Object) → IsItem read setting world place items path q → (file : WorldFile) × (kind_of read setting.machine world (joined place path) ≡ IsObject file q.face)
   item_kind path q is =
       let w = moved.placed.lies is.number is.item is.is_item in
-      let lies : file_at world (joined place path) ≡ Some w.0 = ap (λ p. file_at world (joined place p)) (sym is.path_is) ∙ w.1 in
-      (
+      let lies : file_at world (joined place path) ≡ Some w.0 = ap (λ p. file_at world (joined place p)) (sym is.path_is) ∙ w.1 in (
         w.0,
         ap (kind_of_file read setting.machine) lies
-        ∙ ap (λ b. cond b Other (kind_of_read read w.0 (read w.0.bytes))) (ap (is_other setting.machine) w.2 ∙ is.right)
-        ∙ ap (kind_of_read read w.0) (ap read w.2 ∙ is.seen),
+            ∙ ap (λ b. cond b Other (kind_of_read read w.0 (read w.0.bytes))) (ap (is_other setting.machine) w.2 ∙ is.right)
+            ∙ ap (kind_of_read read w.0) (ap read w.2 ∙ is.seen),
       )
 
   absent_kind : (target : List ℕ) → (HasPath items target → ⊥) → kind_of read setting.machine world (joined place target) ≡ Absent

@@ -157,8 +157,7 @@ module _ {X : Type 0} (answer : List Object → List Asked → Request → Resul
             let asked : slice_get (requests_of o (length before.objs) end.objs) e.0 ≡ Some a.request = ap (λ rs. slice_get rs e.0) (sym all) ∙ map_get (λ (x : Asked). x.request) p.more e.0 a e.1 in
             let taken : take m end.log ≡ before.log ++ take e.0 p.more = ap (take m) p.log ∙ e.2 in
             let more = count_front before.log (take e.0 p.more) in
-            let count : count_after (take m end.log) ≡ count_after (before.log ++ take e.0 p.more) = ap count_after taken in
-            (
+            let count : count_after (take m end.log) ≡ count_after (before.log ++ take e.0 p.more) = ap count_after taken in (
               elim (slice_get-append (map (λ n. record { by = 0; name = n }) o) (needs_from (length before.objs) (drop (length before.objs) end.objs)) e.0 a.request asked) [
                 | inl w ↦ let v = get_map (λ (n : List ℕ). record { by = 0; name = n }) o e.0 a.request w in inl (e.0, v.1 ∙ ap (λ (q : Request). Some q.name) (sym v.2), ap (λ (q : Request). q.by) v.2)
                 | inr w ↦ inr (in_needs (length before.objs) end.objs w.0 a.request w.1)

@@ -4,3 +4,4 @@ pub mod Places
 pub mod Alike
 pub mod SameRuns
 pub mod OpenedThere
+pub mod SmallDirectory

@@ -13,4 +13,4 @@ pub use place_laws::{
     apart_directories, moved_load_list, moved_program_opens_only, moved_search,
     run_paths_lead_to_libraries,
 };
-pub use run_laws::moved_program_runs_same;
+pub use run_laws::{moved_program_runs_same, small_directory_meets};
