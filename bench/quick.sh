@@ -3,7 +3,7 @@
 # patchelf a file; beside `cp -r` of the AppDir plus `show` of the program, all in one run and each the best of five. It
 # prints seconds and ratios, and the peak memory of `quick` to the largest file and the rewritten ones with the texts. The
 # aims: at most half of the first, at most 4 times `cp -r` plus `show`. It needs the built program
-# (crates/appdir/out/appdir) and python3; patchelf and lddtree (Debian: patchelf, pax-utils) where they are installed.
+# (crates/appdir/out/appdir) and python3; patchelf and lddtree (Debian: patchelf, pax-utils with python3-pyelftools) where they are installed.
 # Programs may be given in place of those that are tried.
 set -u
 cd "$(dirname "$0")/.." || exit 1
@@ -35,12 +35,19 @@ def quick(program, out):
     return timed([appdir, "quick", program, out])
 
 
+def lddtree(program):
+    """The files that lddtree lists; none where it does not run here."""
+    path = "/usr/bin:" + os.environ.get("PATH", "")
+    done = subprocess.run(["lddtree", "-l", program], capture_output=True, text=True, env={**os.environ, "PATH": path})
+    return done.stdout.split() if done.returncode == 0 else []
+
+
 def by_patchelf(program, out, bundled):
     """The program and its libraries copied and rewritten by others' tools."""
     shutil.rmtree(out, ignore_errors=True)
     os.makedirs(os.path.join(out, "usr/lib"))
     begun = time.monotonic()
-    listed = subprocess.run(["lddtree", "-l", program], capture_output=True, text=True).stdout.split()
+    listed = lddtree(program)
     for path in listed:
         name = os.path.basename(path)
         if path != program and name not in bundled:
@@ -90,9 +97,10 @@ def measure(room, program, others):
 
 if not os.access(appdir, os.X_OK):
     sys.exit(f"there is no {appdir}: run rt ci first")
-others = bool(shutil.which("patchelf") and shutil.which("lddtree"))
+others = bool(shutil.which("patchelf") and shutil.which("lddtree") and lddtree("/bin/sh"))
 if not others:
-    print("patchelf and lddtree are not here (Debian: patchelf, pax-utils): their times are left out")
+    print("patchelf and lddtree are not here, or do not run (Debian: patchelf, pax-utils, python3-pyelftools): their times "
+          "are left out")
 for program in given or PROGRAMS:
     if os.access(program, os.X_OK):
         room = tempfile.mkdtemp()
