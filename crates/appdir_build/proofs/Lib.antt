@@ -4,6 +4,7 @@ pub mod ListingLemmas
 pub mod PackageLemmas
 pub mod PreparedLemmas
 pub mod LawLemmas
+pub mod AppRunLemmas
 pub mod BodyLemmas
 pub mod ItemLemmas
 pub mod WrittenLemmas

@@ -1,3 +1,4 @@
+pub mod AppRun
 pub mod Files
 pub mod Objects
 pub mod Outcome

@@ -16,4 +16,4 @@ mod writing;
 pub use build_plan::BuildStop;
 pub use building::build;
 pub use built::Built;
-pub use laws::at_most_one_outcome;
+pub use laws::{app_run_is_last, at_most_one_outcome};
