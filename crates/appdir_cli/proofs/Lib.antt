@@ -1,3 +1,4 @@
+pub mod AppRunLemmas
 pub mod CompletenessLemmas
 pub mod EndingLemmas
 pub mod Lists

@@ -1,3 +1,4 @@
+pub mod AppRun
 pub mod ComesTo
 pub mod Endings
 pub mod Packing

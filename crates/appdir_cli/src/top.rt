@@ -1,9 +1,10 @@
-//! The top call. Definitions: `specs/Endings.antt`, `specs/ComesTo.antt` and
+//! The top call. Definitions: `specs/Endings.antt`, `specs/ComesTo.antt`, `specs/AppRun.antt` and
 //! `specs/TwoWorlds.antt`.
 
 ghost use Rattle.std.specs.Prelude.{◌≡◌, ◌≤◌};
 ghost use Rattle.answers.specs.Told.{WhereTold};
 ghost use Rattle.ports.specs.View.{OnlyReads};
+ghost use Rattle.appdir_cli.specs.AppRun.{IsAppRunLast};
 ghost use Rattle.appdir_cli.specs.Endings.{Ends, IsComplete, outside};
 ghost use Rattle.appdir_cli.specs.TwoWorlds.{RunsAlike};
 ghost use Rattle.appdir_cli.specs.Words.{command_of, texts};
@@ -28,6 +29,9 @@ pub fn appdir_main<T: Tree, O: OutDir, S: Sink>(
         (outside (T.seen tree.old) (O.seen out.old) (S.seen sink.old))
         (outside (T.seen tree.new) (O.seen out.new) (S.seen sink.new)) result }
     ensures complete { IsComplete (command_of (texts words.now))
+        (outside (T.seen tree.old) (O.seen out.old) (S.seen sink.old))
+        (outside (T.seen tree.new) (O.seen out.new) (S.seen sink.new)) result }
+    ensures app_run_last { IsAppRunLast (command_of (texts words.now))
         (outside (T.seen tree.old) (O.seen out.old) (S.seen sink.old))
         (outside (T.seen tree.new) (O.seen out.new) (S.seen sink.new)) result }
     ensures two_worlds { WhereTold (T.seen tree.old).told
