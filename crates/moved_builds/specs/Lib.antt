@@ -1,2 +1,3 @@
+pub mod BuiltRuns
 pub mod Premises
 pub mod Renaming

@@ -177,12 +177,13 @@ module _ {X : Type 0} (answer : List Object → List Asked → Request → Resul
   pub record IsOpened (opens : List (List ℕ)) (starts : List Loaded) (after : Loaded) (m : ℕ) (r : Request) : Type 0 where
     pub nth : ℕ
     pub name_is : slice_get opens nth ≡ Some r.name
+    pub by_program : r.by ≡ 0
     pub start : Loaded
     pub start_is : slice_get starts nth ≡ Some start
     pub before : length start.objs ≤ count_after (take m after.log)
 
   later_opened : (n : List ℕ) (opens : List (List ℕ)) (before : Loaded) (starts : List Loaded) (after : Loaded) (m : ℕ) (r : Request) → IsOpened opens starts after m r → IsOpened (n ∷ opens) (before ∷ starts) after m r
-  later_opened n opens before starts after m r w = record { nth = suc w.nth; name_is = w.name_is; start = w.start; start_is = w.start_is; before = w.before }
+  later_opened n opens before starts after m r w = record { nth = suc w.nth; name_is = w.name_is; by_program = w.by_program; start = w.start; start_is = w.start_is; before = w.before }
 
   pub request_from : (opens : List (List ℕ)) (before after : Loaded) (ends : List Loaded) → count_after before.log ≡ length before.objs → IsEndedFrom answer before (map (λ n. n ∷ []) opens) after ends → (m : ℕ) (a : Asked) → length before.log ≤ m → slice_get after.log m ≡ Some a → IsNeed after.objs a.request ⊎ IsOpened opens (before ∷ ends) after m a.request
   request_from [] before after [] even p m a le g =
@@ -203,7 +204,7 @@ module _ {X : Type 0} (answer : List Object → List Asked → Request → Resul
             let count : count_after (take m after.log) ≡ count_after (take m end.log) = ap (λ xs. count_after (take m xs)) grown.log ∙ ap count_after f.1 in
             let low = w.1 in
             elim w.0 [
-              | inl v ↦ inr (record { nth = 0; name_is = one_at n a.request.name v.0 v.1; start = before; start_is = refl; before = omega arith })
+              | inl v ↦ inr (record { nth = 0; name_is = one_at n a.request.name v.0 v.1; by_program = v.2; start = before; start_is = refl; before = omega arith })
               | inr v ↦ inl (more_needs end after a.request grown v)
             ]
         | inr b ↦
