@@ -1,8 +1,12 @@
 pub mod BesideLemmas
 pub mod FaceLemmas
 pub mod FilesLemmas
+pub mod GoingLemmas
+pub mod HostLemmas
 pub mod LoadedLemmas
+pub mod LyingLemmas
 pub mod NamesLemmas
+pub mod NeedsLemmas
 pub mod RunInLemmas
 pub mod TableLemmas
 pub mod WrittenLemmas

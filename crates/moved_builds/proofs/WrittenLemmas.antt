@@ -83,7 +83,7 @@ members_of_programs : (faces : List Face) (runs : List Run) (names : List (List 
 unfolding parts_of_build
 members_of_programs faces runs names = refl
 
-members_of_libs : (faces : List Face) (runs : List Run) (names : List (List ℕ)) → (parts_of_build faces runs names).libs ≡ map member_of (bundled_of faces runs names)
+pub members_of_libs : (faces : List Face) (runs : List Run) (names : List (List ℕ)) → (parts_of_build faces runs names).libs ≡ map member_of (bundled_of faces runs names)
 unfolding parts_of_build
 members_of_libs faces runs names = refl
 
@@ -217,6 +217,8 @@ module _ (world : World) (config : Config) (b : Building) (number : ℕ) (start 
     pub first : Occurrence
     pub found : find (has_id o.id) firsts ≡ Some first
     pub same : first.obj.id ≡ o.id
+    pub first_there : Contains firsts first
+    pub kept : is_bundled b.faces b.runs config.names first ≡ true
     pub seen : first.face ≡ o.face
     pub object : slice_get (lib_objects b) place ≡ Some (member_of first, change_of_lib b.split b.layout named_files first)
     pub made : IsMadeOf config.setting.machine (change_of_lib b.split b.layout named_files first) o.face (new_bytes_of world (member_of first, change_of_lib b.split b.layout named_files first))
@@ -225,7 +227,8 @@ module _ (world : World) (config : Config) (b : Building) (number : ℕ) (start 
   lib_made j o x ho hx id face lib =
       let w = get_map member_of (bundled_of b.faces b.runs config.names) lib.place lib.lib (ap (λ ms. slice_get ms lib.place) (sym members_are) ∙ lib.lib_is) in
       let f : Occurrence = w.0 in
-      let is_first = (of_filter (is_bundled b.faces b.runs config.names) firsts f (at_place (bundled_of b.faces b.runs config.names) lib.place f w.1)).0 in
+      let kept = of_filter (is_bundled b.faces b.runs config.names) firsts f (at_place (bundled_of b.faces b.runs config.names) lib.place f w.1) in
+      let is_first = kept.0 in
       let comes = of_all b.faces b.runs f (first_in_all b.faces b.runs f is_first) in
       let occ = occurs b.faces comes.run comes.number f comes.at in
       let u = right_obj world config b number start run path at comes.run f.obj comes.there (at_place comes.run.objs comes.number f.obj occ.obj) in
@@ -247,6 +250,8 @@ module _ (world : World) (config : Config) (b : Building) (number : ℕ) (start 
         first = f;
         found = ap (λ i. find (has_id i) firsts) (sym (own ∙ id)) ∙ all_at (λ (p : Occurrence). find (has_id p.obj.id) firsts ≡ Some p) (bundled_of b.faces b.runs config.names) lib.place f bundled_found w.1;
         same = own ∙ id;
+        first_there = is_first;
+        kept = kept.1;
         seen = first_seen ∙ seen;
         object = object;
         made = subst (λ g. IsMadeOf config.setting.machine change g (new_bytes_of world (member_of f, change))) seen
