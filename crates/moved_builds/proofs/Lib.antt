@@ -7,6 +7,7 @@ pub mod LoadedLemmas
 pub mod LyingLemmas
 pub mod NamesLemmas
 pub mod NeedsLemmas
+pub mod PlacedLemmas
 pub mod RunInLemmas
 pub mod TableLemmas
 pub mod WrittenLemmas

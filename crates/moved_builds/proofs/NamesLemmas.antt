@@ -73,6 +73,7 @@ pub record IsHostAt (b : Building) (id : List ℕ) : Type 0 where
   pub id_is : host.id ≡ id
   pub known : new_name_of b.split b.layout id ≡ Some host.name
   pub missed : lib_with b.split id ≡ None
+  pub found : host_with b.split id ≡ Some host
 
 lib_by : (b : Building) (id : List ℕ) (found : Option ℕ) → length b.layout.libs ≡ length b.split.libs → position (λ (lib : Member). bytes_eq id lib.id) b.split.libs ≡ found → Made (λ (a : Member). a.id) b.split.libs id → IsLibAt b id
 unfolding new_name_of
@@ -131,6 +132,7 @@ host_by b id (Some host) ids h is =
       id_is = sym (same_bytes id host.id (find_passes (λ (g : HostLib). bytes_eq id g.id) b.split.hosts host is));
       known = ap (λ o. option_or (option_and_then (slice_get b.layout.libs) o) (key_name_of b.split b.layout id)) nowhere ∙ ap (option_map (λ (g : HostLib). g.name)) is;
       missed = none;
+      found = is;
     }
 
 pub host_at : (b : Building) (id : List ℕ) → HasDistinctIds b.split → IsHostId b.split id → IsHostAt b id
