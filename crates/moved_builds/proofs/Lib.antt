@@ -7,7 +7,9 @@ pub mod LoadedLemmas
 pub mod LyingLemmas
 pub mod NamesLemmas
 pub mod NeedsLemmas
+pub mod OpensLemmas
 pub mod PlacedLemmas
+pub mod PremiseLemmas
 pub mod RunInLemmas
 pub mod TableLemmas
 pub mod WrittenLemmas

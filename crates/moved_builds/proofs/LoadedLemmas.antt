@@ -18,7 +18,7 @@ use Rattle.load_model.specs.declared.refusals.LoadRefusal.TheVariants.{MissingLi
 use Rattle.load_model.specs.declared.setting.Setting.{Setting}
 use Rattle.load_model.specs.declared.world.WorldFile.{WorldFile}
 use Rattle.load_model.proofs.DecidingLemmas.{first_decides}
-use Rattle.load_model.proofs.AskedNeeds.{map_get}
+use Rattle.load_model.proofs.AskedNeeds.{map_get, opened_asked}
 use Rattle.load_model.proofs.History.{IsHistory, brought_by, run_grown, target_count}
 use Rattle.load_model.proofs.LoadLists.{forget, history, one_target}
 use Rattle.load_model.proofs.OneRun.{there}
@@ -210,3 +210,11 @@ module _ (read : List ℕ → Result Face Flaw) (setting : Setting) (world : Wor
       ap (λ x. slice_get (map (target_in loaded.log) (needs_at x)) e) go
       ∙ map_get (target_in loaded.log) o.face.needs e a.request.name ge
       ∙ ap Some (went m a g)
+
+  -- An opened name went to an object that is there.
+  pub opened_there : (k : ℕ) (name : List ℕ) → slice_get opens k ≡ Some name → (x : Object) × (slice_get loaded.objs (target_in loaded.log name) ≡ Some x)
+  opened_there k name h =
+      let w = opened_asked (goes_to read setting world path) list.program opens loaded (forget read setting world path list.program opens loaded ends list.run) k name h in
+      let to : target_in loaded.log name ≡ w.1.target = ap (target_in loaded.log) (sym (ap (λ (r : Request). r.name) w.3)) ∙ went w.0 w.1 w.2 in
+      let x = target_there w.0 w.1 w.2 in
+      (x.0, ap (slice_get loaded.objs) to ∙ x.1)

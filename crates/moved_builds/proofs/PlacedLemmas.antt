@@ -70,11 +70,11 @@ use Rattle.moved_builds.proofs.WrittenLemmas.{IsLibMade, IsMadeOf, IsProgramMade
 
 -- ---- the texts of changes
 
-program_texts : (b : Building) (p : List ℕ) (o : Occurrence) → ((change_of_program b.split b.layout p o).needs ≡ new_needs b.split b.layout o) × ((change_of_program b.split b.layout p o).soname ≡ None) × ((change_of_program b.split b.layout p o).runpath ≡ some_where (has_bundled_need b.split b.layout o || has_bundled_root b.split b.layout o) p)
+pub program_texts : (b : Building) (p : List ℕ) (o : Occurrence) → ((change_of_program b.split b.layout p o).needs ≡ new_needs b.split b.layout o) × ((change_of_program b.split b.layout p o).soname ≡ None) × ((change_of_program b.split b.layout p o).runpath ≡ some_where (has_bundled_need b.split b.layout o || has_bundled_root b.split b.layout o) p)
 unfolding change_of_program
 program_texts b p o = (refl, refl, refl)
 
-record_libs : (b : Building) → (record_in b).libs ≡ map (recorded_lib b.faces) b.split.hosts
+pub record_libs : (b : Building) → (record_in b).libs ≡ map (recorded_lib b.faces) b.split.hosts
 unfolding record_in
 record_libs b = refl
 
@@ -82,11 +82,11 @@ chosen : (c : Bool) (p : List ℕ) (r : Option (List ℕ)) → r ≡ some_where 
 chosen true p r h = inr h
 chosen false p r h = inl h
 
-chosen_so : (c : Bool) (p : List ℕ) (r : Option (List ℕ)) → r ≡ some_where c p → c ≡ true → r ≡ Some p
+pub chosen_so : (c : Bool) (p : List ℕ) (r : Option (List ℕ)) → r ≡ some_where c p → c ≡ true → r ≡ Some p
 chosen_so true p r h e = h
 chosen_so false p r h e = cc
 
-lib_texts : (b : Building) (o : Occurrence) → ((change_of_lib b.split b.layout (all_files_named b.split b.layout b.faces b.runs) o).needs ≡ new_needs b.split b.layout o) × ((change_of_lib b.split b.layout (all_files_named b.split b.layout b.faces b.runs) o).soname ≡ option_map (new_soname b.split b.layout o) o.face.soname) × ((change_of_lib b.split b.layout (all_files_named b.split b.layout b.faces b.runs) o).runpath ≡ some_where (has_bundled_need b.split b.layout o) run_path_of_libs)
+pub lib_texts : (b : Building) (o : Occurrence) → ((change_of_lib b.split b.layout (all_files_named b.split b.layout b.faces b.runs) o).needs ≡ new_needs b.split b.layout o) × ((change_of_lib b.split b.layout (all_files_named b.split b.layout b.faces b.runs) o).soname ≡ option_map (new_soname b.split b.layout o) o.face.soname) × ((change_of_lib b.split b.layout (all_files_named b.split b.layout b.faces b.runs) o).runpath ≡ some_where (has_bundled_need b.split b.layout o) run_path_of_libs)
 unfolding change_of_lib
 lib_texts b o = (refl, refl, refl)
 
@@ -108,7 +108,7 @@ module _ (setting : Setting) (world : World) (place : List ℕ) (files : List Me
   }
 
   -- The run path of a program leads to the folder of libraries from where it lies.
-  program_leads : (config : Config) (number : ℕ) (path : List ℕ) (q : Object) → All (λ (tool : Program). IsFileName tool.name) config.tools → IsNormalPath place → slice_get (program_places config) number ≡ Some path → q.path ≡ joined place path → q.face.runpath ≡ Some (path_at number) → LeadsToLibs face_or_flaw setting world place (as_items files) q
+  pub program_leads : (config : Config) (number : ℕ) (path : List ℕ) (q : Object) → All (λ (tool : Program). IsFileName tool.name) config.tools → IsNormalPath place → slice_get (program_places config) number ≡ Some path → q.path ≡ joined place path → q.face.runpath ≡ Some (path_at number) → LeadsToLibs face_or_flaw setting world place (as_items files) q
   program_leads config number path q tools normal lies stands has =
       elim (program_place_cases config number path lies) [
         | inl w ↦
@@ -218,7 +218,7 @@ module _ (world : World) (config : Config) (b : Building) (number : ℕ) (start 
             (lib_lies world config b lib.lib.place lib.lib.name object lib.lib.named m.object) m.made (there_at j o q ho hq ∙ lib_for j o some is);
       }
 
-  first_place : (j : ℕ) (o q : Object) (p : IsLibPlaced j o q) → IsFirst world config b number start run path at j o p.made.first
+  pub first_place : (j : ℕ) (o q : Object) (p : IsLibPlaced j o q) → IsFirst world config b number start run path at j o p.made.first
   first_place j o q p = record {
     found = p.made.found;
     first_there = p.made.first_there;
@@ -288,7 +288,7 @@ module _ (world : World) (config : Config) (b : Building) (number : ℕ) (start 
 
   -- ---- written files
 
-  program_written : (o q : Object) → slice_get loaded.objs 0 ≡ Some o → slice_get objs_there 0 ≡ Some q → IsWritten face_or_flaw setting there place (as_items files) (name_in b run) loaded.log path o q × (q.face.soname ≡ None)
+  pub program_written : (o q : Object) → slice_get loaded.objs 0 ≡ Some o → slice_get objs_there 0 ≡ Some q → IsWritten face_or_flaw setting there place (as_items files) (name_in b run) loaded.log path o q × (q.face.soname ≡ None)
   program_written o q ho hq =
       let p = program_placed o q ho hq in
       let s = stands world config b number start run path at 0 o ho in
@@ -309,12 +309,12 @@ module _ (world : World) (config : Config) (b : Building) (number : ℕ) (start 
         texts.soname ∙ of_change.1,
       )
 
-  libs_lead : (j : ℕ) (o q : Object) (p : IsLibPlaced j o q) → q.face.runpath ≡ Some run_path_of_libs → LeadsToLibs face_or_flaw setting there place (as_items files) q
+  pub libs_lead : (j : ℕ) (o q : Object) (p : IsLibPlaced j o q) → q.face.runpath ≡ Some run_path_of_libs → LeadsToLibs face_or_flaw setting there place (as_items files) q
   libs_lead j o q p e =
       let named : IsFileName (name_in b run j) = subst IsFileName (sym p.lib.name) (all_at IsFileName b.layout.libs p.lib.lib.place p.lib.lib.name (layout_named world config b number start run path at) p.lib.lib.named) in
       leads_by setting there place files q (lib_place (name_in b run j)) (codes "$ORIGIN") p.lies.item.lies e (λ name h. lib_leads setting place (name_in b run j) name home.place_normal named h)
 
-  lib_written : (j : ℕ) (o q : Object) → 0 < j → is_bundled_in b run j ≡ true → slice_get loaded.objs j ≡ Some o → slice_get objs_there j ≡ Some q → IsWritten face_or_flaw setting there place (as_items files) (name_in b run) loaded.log (lib_place (name_in b run j)) o q
+  pub lib_written : (j : ℕ) (o q : Object) → 0 < j → is_bundled_in b run j ≡ true → slice_get loaded.objs j ≡ Some o → slice_get objs_there j ≡ Some q → IsWritten face_or_flaw setting there place (as_items files) (name_in b run) loaded.log (lib_place (name_in b run j)) o q
   lib_written j o q some is ho hq =
       let p = lib_placed j o q some is ho hq in
       let texts = new_texts (change_of_lib b.split b.layout (all_files_named b.split b.layout b.faces b.runs) p.made.first) o q p.lies.by in
@@ -330,7 +330,7 @@ module _ (world : World) (config : Config) (b : Building) (number : ℕ) (start 
             ];
       }
 
-  lib_soname : (j : ℕ) (o q : Object) (p : IsLibPlaced j o q) (s : List ℕ) → q.face.soname ≡ Some s → s ≡ name_in b run j
+  pub lib_soname : (j : ℕ) (o q : Object) (p : IsLibPlaced j o q) (s : List ℕ) → q.face.soname ≡ Some s → s ≡ name_in b run j
   lib_soname j o q p s e =
       let texts = new_texts (change_of_lib b.split b.layout (all_files_named b.split b.layout b.faces b.runs) p.made.first) o q p.lies.by in
       let of_change = lib_texts b p.made.first in
@@ -338,7 +338,7 @@ module _ (world : World) (config : Config) (b : Building) (number : ℕ) (start 
 
   -- ---- host libraries are found
 
-  host_file : (j : ℕ) (o q : Object) → 0 < j → is_bundled_in b run j ≡ false → slice_get loaded.objs j ≡ Some o → slice_get objs_there j ≡ Some q → IsHostFile face_or_flaw setting there place (as_items files) (name_in b run) loaded.log (name_in b run j) o q
+  pub host_file : (j : ℕ) (o q : Object) → 0 < j → is_bundled_in b run j ≡ false → slice_get loaded.objs j ≡ Some o → slice_get objs_there j ≡ Some q → IsHostFile face_or_flaw setting there place (as_items files) (name_in b run) loaded.log (name_in b run j) o q
   host_file j o q some is ho hq =
       let p = host_placed j o q some is ho hq in
       record {
@@ -347,5 +347,5 @@ module _ (world : World) (config : Config) (b : Building) (number : ℕ) (start 
         run_path = subst HasNoRunPath (sym p.same) p.file.run_path;
       }
 
-  host_soname : (j : ℕ) (o q : Object) (p : IsHostPlaced j o q) (s : List ℕ) → q.face.soname ≡ Some s → s ≡ name_in b run j
+  pub host_soname : (j : ℕ) (o q : Object) (p : IsHostPlaced j o q) (s : List ℕ) → q.face.soname ≡ Some s → s ≡ name_in b run j
   host_soname j o q p s e = p.file.soname s (ap (λ (x : Object). x.face.soname) (sym p.same) ∙ e) ∙ sym p.host.name
