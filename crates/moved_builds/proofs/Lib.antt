@@ -13,3 +13,4 @@ pub mod PremiseLemmas
 pub mod RunInLemmas
 pub mod TableLemmas
 pub mod WrittenLemmas
+pub mod RecordedLemmas
