@@ -13,4 +13,6 @@ pub mod PremiseLemmas
 pub mod RunInLemmas
 pub mod TableLemmas
 pub mod WrittenLemmas
+pub mod HostNumberLemmas
 pub mod RecordedLemmas
+pub mod RecordedVersionLemmas

@@ -127,6 +127,9 @@ own_parts false true true h w = cc
 own_parts false true false h w = (refl, refl)
 own_parts false false lacks h w = cc
 
+pub object_is : (setting : Setting) (there : World) (r : Record) (q : Object) (name : List ℕ) → listed_decision face_or_flaw setting there name ≡ Some (Ok q) → lib_object face_or_flaw setting there r name ≡ Some q
+object_is setting there r q name h = ap (object_in face_or_flaw setting there r) h
+
 module _ (setting : Setting) (there : World) (r : Record) (meets : HostMeets face_or_flaw setting there r) where
   abbrev Differences : Type 0
   Differences = List (Option Difference)
@@ -157,9 +160,6 @@ module _ (setting : Setting) (there : World) (r : Record) (meets : HostMeets fac
       (Contains-append_right of_libs (of_files ++ (of_versions ++ (of_looks ++ of_own))) o
       (Contains-append_right of_files (of_versions ++ (of_looks ++ of_own)) o c)) in
       all_none (differences_in_order face_or_flaw setting there r) meets all.0 o (place_of (differences_in_order face_or_flaw setting there r) o all)
-
-  pub object_is : (q : Object) (name : List ℕ) → listed_decision face_or_flaw setting there name ≡ Some (Ok q) → lib_object face_or_flaw setting there r name ≡ Some q
-  object_is q name h = ap (object_in face_or_flaw setting there r) h
 
   -- A library has a version that is asked of it.
   pub version_there : (v : RecVersion) (q : Object) → Contains r.versions v → lib_object face_or_flaw setting there r (name_of_lib face_or_flaw setting there r v.lib) ≡ Some q → has_defined v.version q.face.defs ≡ true
