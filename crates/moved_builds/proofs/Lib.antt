@@ -14,5 +14,6 @@ pub mod RunInLemmas
 pub mod TableLemmas
 pub mod WrittenLemmas
 pub mod HostNumberLemmas
+pub mod LookLemmas
 pub mod RecordedLemmas
 pub mod RecordedVersionLemmas
