@@ -15,5 +15,6 @@ pub mod TableLemmas
 pub mod WrittenLemmas
 pub mod HostNumberLemmas
 pub mod LookLemmas
+pub mod OwnAskLemmas
 pub mod RecordedLemmas
 pub mod RecordedVersionLemmas
