@@ -18,3 +18,5 @@ pub mod LookLemmas
 pub mod OwnAskLemmas
 pub mod RecordedLemmas
 pub mod RecordedVersionLemmas
+pub mod SymbolsKeptLemmas
+pub mod AskMadeLemmas
