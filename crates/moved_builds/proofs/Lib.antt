@@ -20,3 +20,4 @@ pub mod RecordedLemmas
 pub mod RecordedVersionLemmas
 pub mod SymbolsKeptLemmas
 pub mod AskMadeLemmas
+pub mod AskedFileLemmas
