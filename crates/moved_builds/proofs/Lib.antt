@@ -21,3 +21,6 @@ pub mod RecordedVersionLemmas
 pub mod SymbolsKeptLemmas
 pub mod AskMadeLemmas
 pub mod AskedFileLemmas
+pub mod ToldFileLemmas
+pub mod AskedThereLemmas
+pub mod AlikeLemmas
