@@ -33,15 +33,15 @@ module _ (world : World) (config : Config) (b : Building) (number : ℕ) (start 
       (hosts_there : (j : ℕ) (o q : Object) → 0 < j → is_bundled_in b run j ≡ false → slice_get loaded.objs j ≡ Some o → slice_get objs_there j ≡ Some q → IsHostThere b run setting there j o q)
       -- needs of host libraries are the names of host libraries
       (host_need : (j e t : ℕ) (o : Object) (name : List ℕ) → 0 < j → is_bundled_in b run j ≡ false → slice_get loaded.objs j ≡ Some o → slice_get o.face.needs e ≡ Some name → slice_get (need_targets loaded j) e ≡ Some t → (0 < t) × (is_bundled_in b run t ≡ false) × (name_in b run t ≡ name))
-      where
-    pub alike : IsAlike b.faces (replay_in b.faces run) loaded (name_in b run) (is_bundled_in b run) objs_there
-    alike =
-        let among = run_there world config b number start run path at in
-        let loads = at.plays.loads in
-        record {
-          symbols = symbols_there b run loaded objs_there program_there libs_there;
-          asks = asks_there world config b number start run path at objs_there program_there libs_there;
-          versions = versions_there b config.names at.builds.plan.split at.over run among start.opens loaded loads.ends loads.run_is setting there meets objs_there count hosts_there;
-          looks = looks_there b config.names at.builds.plan.split at.over run among start.opens loaded loads.ends loads.run_is setting there meets objs_there hosts_there;
-          own_asks = own_asks_there b config.names at.builds.plan.split at.over run among start.opens loaded loads.ends loads.run_is setting there meets objs_there count hosts_there host_need;
-        }
+    where
+      pub alike : IsAlike b.faces (replay_in b.faces run) loaded (name_in b run) (is_bundled_in b run) objs_there
+      alike =
+          let among = run_there world config b number start run path at in
+          let loads = at.plays.loads in
+          record {
+            symbols = symbols_there b run loaded objs_there program_there libs_there;
+            asks = asks_there world config b number start run path at objs_there program_there libs_there;
+            versions = versions_there b config.names at.builds.plan.split at.over run among start.opens loaded loads.ends loads.run_is setting there meets objs_there count hosts_there;
+            looks = looks_there b config.names at.builds.plan.split at.over run among start.opens loaded loads.ends loads.run_is setting there meets objs_there hosts_there;
+            own_asks = own_asks_there b config.names at.builds.plan.split at.over run among start.opens loaded loads.ends loads.run_is setting there meets objs_there count hosts_there host_need;
+          }

@@ -87,16 +87,19 @@ module _ (world : World) (config : Config) (b : Building) (number : ℕ) (start 
   program_asks k o q ask h w a =
       let made = ask_made (change_of_program b.split b.layout w.run_path w.stands) o q k ask w.by a in
       let p = stands_for 0 o w.stands h w.at in
-      let here_is : slice_get w.stands.face.asks k ≡ Some made.here = ap (λ (f : Face). slice_get f.asks k) p.face ∙ made.here_is in
-      (made.here, made.here_is, record {
-        name = made.name;
-        weak = made.weak;
-        file = λ t f.
-            let n = file_named world config b number start run path at run 0 k t w.stands made.here among p.is here_is f in (
-              not_program world config b number start run path at t n.obj n.stands n.library,
-              made.file ∙ ap (λ fs. text_at fs k) (program_files b w.run_path w.stands) ∙ own_text b run 0 k t w.stands made.here p.is here_is f n ∙ sym (named_in b w.stands run t n),
-            );
-      })
+      let here_is : slice_get w.stands.face.asks k ≡ Some made.here = ap (λ (f : Face). slice_get f.asks k) p.face ∙ made.here_is in (
+        made.here,
+        made.here_is,
+        record {
+          name = made.name;
+          weak = made.weak;
+          file = λ t f.
+              let n = file_named world config b number start run path at run 0 k t w.stands made.here among p.is here_is f in (
+                not_program world config b number start run path at t n.obj n.stands n.library,
+                made.file ∙ ap (λ fs. text_at fs k) (program_files b w.run_path w.stands) ∙ own_text b run 0 k t w.stands made.here p.is here_is f n ∙ sym (named_in b w.stands run t n),
+              );
+        },
+      )
 
   lib_asks : (j k : ℕ) (o q : Object) (ask : Ask) → is_bundled_in b run j ≡ true → slice_get loaded.objs j ≡ Some o → IsLibThere b run j o q → slice_get q.face.asks k ≡ Some ask → ask.weak ≡ false → IsAsked j k o ask
   lib_asks j k o q ask lib h w a weak =
@@ -109,17 +112,20 @@ module _ (world : World) (config : Config) (b : Building) (number : ℕ) (start 
       let here : Comes b.faces b.runs w.stands = record { run = run; there = among; number = j; at = w.at } in
       let face : w.first.face ≡ o.face = one_face world config b number start run path at w.first w.stands (of_all b.faces b.runs w.first (first_in_all b.faces b.runs w.first first.there)) here (first.same ∙ sym p.id) ∙ p.face in
       let first_is : slice_get w.first.face.asks k ≡ Some made.here = ap (λ (f : Face). slice_get f.asks k) face ∙ made.here_is in
-      let here_is : slice_get w.stands.face.asks k ≡ Some made.here = ap (λ (f : Face). slice_get f.asks k) p.face ∙ made.here_is in
-      (made.here, made.here_is, record {
-        name = made.name;
-        weak = made.weak;
-        file = λ t f.
-            let n = file_named world config b number start run path at run j k t w.stands made.here among p.is here_is f in
-            let told = told_there world config b number start run path at o.id id first k made.here first_is (sym made.weak ∙ weak) w.stands here t (in_all b.faces b.runs run j w.stands among w.at) p.id here_is f n in (
-              not_program world config b number start run path at t n.obj n.stands n.library,
-              made.file ∙ ap (λ fs. text_at fs k) (lib_files b named w.first) ∙ told_text named w.first k made.here n.name first_is (ap (λ i. told_name named i made.here.file) first.same ∙ told) ∙ sym (named_in b w.stands run t n),
-            );
-      })
+      let here_is : slice_get w.stands.face.asks k ≡ Some made.here = ap (λ (f : Face). slice_get f.asks k) p.face ∙ made.here_is in (
+        made.here,
+        made.here_is,
+        record {
+          name = made.name;
+          weak = made.weak;
+          file = λ t f.
+              let n = file_named world config b number start run path at run j k t w.stands made.here among p.is here_is f in
+              let told = told_there world config b number start run path at o.id id first k made.here first_is (sym made.weak ∙ weak) w.stands here t (in_all b.faces b.runs run j w.stands among w.at) p.id here_is f n in (
+                not_program world config b number start run path at t n.obj n.stands n.library,
+                made.file ∙ ap (λ fs. text_at fs k) (lib_files b named w.first) ∙ told_text named w.first k made.here n.name first_is (ap (λ i. told_name named i made.here.file) first.same ∙ told) ∙ sym (named_in b w.stands run t n),
+              );
+        },
+      )
 
   module _ (objs_there : List Object) (program_there : (o q : Object) → slice_get loaded.objs 0 ≡ Some o → slice_get objs_there 0 ≡ Some q → IsProgramThere b run o q) (libs_there : (j : ℕ) (o q : Object) → 0 < j → is_bundled_in b run j ≡ true → slice_get loaded.objs j ≡ Some o → slice_get objs_there j ≡ Some q → IsLibThere b run j o q) where
     pub asks_there : (j k : ℕ) (o q : Object) (ask : Ask) → is_written (is_bundled_in b run) j ≡ true → slice_get loaded.objs j ≡ Some o → slice_get objs_there j ≡ Some q → slice_get q.face.asks k ≡ Some ask → ask.weak ≡ false → (here : Ask) × (slice_get o.face.asks k ≡ Some here) × IsSameAsk b.faces run (name_in b run) j here ask

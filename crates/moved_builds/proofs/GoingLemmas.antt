@@ -3,7 +3,7 @@ use Rattle.std.proofs.Common.{◌≡◌, ◌∙◌, sym, ap, refl, subst, ℕ, z
 use Rattle.std.specs.Prelude.{◌⊎◌}
 use Rattle.std.specs.List.{Contains, find, list_any}
 use Rattle.std.specs.Option.{option_and_then, unwrap_or}
-use Rattle.std.proofs.lemmas.Bool.{both_ways}
+use Rattle.std.proofs.lemmas.Bool.{both_ways, cases_lt}
 use Rattle.std.proofs.lemmas.List.Elements.{All-contains}
 use Rattle.std.proofs.lemmas.Option.{slice_get_within}
 use Rattle.answers.specs.First.{some_where}
@@ -35,7 +35,7 @@ use Rattle.object_changes.specs.Changing.{has_bundled_need, has_bundled_root, ne
 use Rattle.object_changes.specs.Names.{goes_to_bundled, new_name_of}
 use Rattle.moved_builds.specs.BuiltRuns.{IsRunIn}
 use Rattle.moved_builds.specs.Renaming.{is_bundled_in, name_in}
-use Rattle.moved_builds.proofs.NamesLemmas.{IsHostAt, IsHostOf, IsLibAt, all_objects_there, as_library, lib_of}
+use Rattle.moved_builds.proofs.NamesLemmas.{IsHostAt, IsHostOf, IsLibAt, all_objects_there, as_library, host_of, lib_of, program_apart}
 use Rattle.moved_builds.proofs.NeedsLemmas.{GoesTo, bundled_by, counted, first_goes, goes_at, has_need, host_goes, map_stays_by, needs_named, own_targets_are, beside}
 use Rattle.moved_builds.proofs.RunInLemmas.{obj_here, run_there}
 use Rattle.moved_builds.proofs.WrittenLemmas.{members_of_libs}
@@ -224,3 +224,22 @@ module _ (world : World) (config : Config) (b : Building) (number : ℕ) (start 
 
   pub host_named : (j : ℕ) (o : Object) (s : Stands j o) → IsHostOf b run j s.obj → slice_get loaded.objs j ≡ Some o → new_names (name_in b run) loaded.log o.face.needs ≡ o.face.needs
   host_named j o s host h = map_stays_by (new_name (name_in b run) loaded.log) o.face.needs (λ e need g. (host_need j o s host h e need g).1)
+
+  -- The same by the numbers of targets.
+  pub host_needs : (j e t : ℕ) (o : Object) (need : List ℕ) → 0 < j → is_bundled_in b run j ≡ false → slice_get loaded.objs j ≡ Some o → slice_get o.face.needs e ≡ Some need → slice_get (need_targets loaded j) e ≡ Some t → (0 < t) × (is_bundled_in b run t ≡ false) × (name_in b run t ≡ need)
+  host_needs j e t o need some unbundled h g ht =
+      let s = stands j o h in
+      let host = host_of world config b number start run path at j s.obj some s.obj_is unbundled in
+      let w = goes j o s.it h s.there s.seen e need g in
+      let to = host_need j o s host h e need g in
+      let both : Some t ≡ Some (target_in loaded.log need) = sym ht ∙ ap (λ x. slice_get (map (target_in loaded.log) (needs_at x)) e) h ∙ map_get (target_in loaded.log) o.face.needs e need g in
+      let one : t ≡ target_in loaded.log need = cc in (
+        elim (cases_lt 0 t) [
+          | inl less ↦ less
+          | inr more ↦
+              let zero_is : target_in loaded.log need ≡ 0 = omega (arith, one, more) in
+              absurd (program_apart world config b number start run path at w.found.obj (ap (slice_get run.objs) (sym zero_is) ∙ w.stands_at) w.library)
+        ],
+        ap (is_bundled_in b run) one ∙ to.0,
+        ap (name_in b run) one ∙ to.1,
+      )

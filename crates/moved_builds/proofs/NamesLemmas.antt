@@ -243,6 +243,10 @@ module _ (world : World) (config : Config) (b : Building) (number : ℕ) (start 
       subst (λ (s : Split). IsProgramId s x.id) u.parts
       (subst (λ (y : Obj). IsProgramId (parts_of_build b.faces b.runs config.names) y.id) p.obj (program_in b.faces b.runs config.names run p.it here p.at))
 
+  -- The program is no library.
+  pub program_apart : (x : Obj) → slice_get run.objs 0 ≡ Some x → IsLibraryId b.split x.id → ⊥
+  program_apart x h l = split_ids.programs x.id (program_id x h) l
+
   -- ---- requests go to libraries
 
   targets_at : (j : ℕ) → j < length loaded.objs → slice_get run.targets j ≡ Some (need_targets loaded j)

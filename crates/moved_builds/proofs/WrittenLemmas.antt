@@ -87,11 +87,11 @@ pub members_of_libs : (faces : List Face) (runs : List Run) (names : List (List 
 unfolding parts_of_build
 members_of_libs faces runs names = refl
 
-programs_beside : (b : Building) → program_objects b ≡ zip b.split.programs (changes_of b.faces b.runs b.split b.layout).programs
+pub programs_beside : (b : Building) → program_objects b ≡ zip b.split.programs (changes_of b.faces b.runs b.split b.layout).programs
 unfolding program_objects
 programs_beside b = refl
 
-libs_beside : (b : Building) → lib_objects b ≡ zip b.split.libs (changes_of b.faces b.runs b.split b.layout).libs
+pub libs_beside : (b : Building) → lib_objects b ≡ zip b.split.libs (changes_of b.faces b.runs b.split b.layout).libs
 unfolding lib_objects
 libs_beside b = refl
 
@@ -101,7 +101,7 @@ unstopped_by : (path : List ℕ) (r : Result (List ℕ) RewriteStop) → stop_in
 unstopped_by path (Ok bytes) h = refl
 unstopped_by path (Err stop) h = cc
 
-unstopped : (world : World) (b : Building) (object : Member × Change) → first_unwritten world b ≡ None → Contains (program_objects b ++ lib_objects b) object → rewritten (bytes_at world object.0.path) object.1 ≡ Ok (new_bytes_of world object)
+pub unstopped : (world : World) (b : Building) (object : Member × Change) → first_unwritten world b ≡ None → Contains (program_objects b ++ lib_objects b) object → rewritten (bytes_at world object.0.path) object.1 ≡ Ok (new_bytes_of world object)
 unfolding first_unwritten
 unstopped world b object h c =
     unstopped_by object.0.path (new_file_of world object) (none_gives (stop_at world) (program_objects b ++ lib_objects b) object h c)
