@@ -12,14 +12,14 @@ use Rattle.load_model.specs.World.{World}
 use Rattle.load_model.specs.declared.runs.Run.{Run}
 use Rattle.load_model.specs.declared.setting.Setting.{Setting}
 use Rattle.moved_runs.specs.Alike.{IsAlike}
-use Rattle.moved_builds.specs.BuiltRuns.{IsRunIn}
-use Rattle.moved_builds.specs.Renaming.{is_bundled_in, name_in}
+use Rattle.build_laws.specs.BuiltRuns.{IsRunIn}
+use Rattle.build_laws.specs.Renaming.{is_bundled_in, name_in}
 use Rattle.moved_builds.proofs.AskedThereLemmas.{asks_there}
-use Rattle.moved_builds.proofs.BesideLemmas.{IsHostThere, IsLibThere, IsProgramThere}
-use Rattle.moved_builds.proofs.LookLemmas.{looks_there}
-use Rattle.moved_builds.proofs.OwnAskLemmas.{own_asks_there}
-use Rattle.moved_builds.proofs.RecordedVersionLemmas.{versions_there}
-use Rattle.moved_builds.proofs.RunInLemmas.{run_there}
+use Rattle.build_laws.proofs.BesideLemmas.{IsHostThere, IsLibThere, IsProgramThere}
+use Rattle.met_hosts.proofs.LookLemmas.{looks_there}
+use Rattle.met_hosts.proofs.OwnAskLemmas.{own_asks_there}
+use Rattle.met_hosts.proofs.RecordedVersionLemmas.{versions_there}
+use Rattle.build_laws.proofs.RunInLemmas.{run_there}
 use Rattle.moved_builds.proofs.SymbolsKeptLemmas.{symbols_there}
 
 module _ (world : World) (config : Config) (b : Building) (number : ℕ) (start : Start) (run : Run) (path : List ℕ) (at : IsRunIn world config b number start run path) (setting : Setting) (there : World) (meets : HostMeets face_or_flaw setting there (record_in b)) (objs_there : List Object) where

@@ -19,8 +19,8 @@ use Rattle.load_model.specs.declared.faces.Face.{Face}
 use Rattle.load_model.proofs.AskedNeeds.{get_map, map_get}
 use Rattle.object_rewriting.proofs.NamingLemmas.{with_face}
 use Rattle.two_files.specs.Alike.{asks_with, face_with}
-use Rattle.moved_builds.proofs.BesideLemmas.{IsRewrittenBy}
-use Rattle.moved_builds.proofs.FaceLemmas.{new_face}
+use Rattle.build_laws.proofs.BesideLemmas.{IsRewrittenBy}
+use Rattle.build_laws.proofs.FaceLemmas.{new_face}
 
 -- ---- the texts beside the first ask of a need
 

@@ -26,27 +26,14 @@ use Rattle.load_model.proofs.AskedNeeds.{map_get}
 use Rattle.load_model.proofs.NumberLemmas.{length-up_to, number_at}
 use Rattle.moved_runs.proofs.ListLemmas.{all_none, flat_in, numbered_in}
 use Rattle.object_changes.specs.Names.{name_beside, new_name_of}
-use Rattle.moved_builds.specs.BuiltRuns.{IsRunIn}
-use Rattle.moved_builds.specs.Renaming.{name_in}
-use Rattle.moved_builds.proofs.FilesLemmas.{right_obj, same_face}
-use Rattle.moved_builds.proofs.HostNumberLemmas.{program_id}
-use Rattle.moved_builds.proofs.NamesLemmas.{all_objects_there, host_at, lib_at, split_ids}
-use Rattle.moved_builds.proofs.RunInLemmas.{run_there}
-
-pub zip_at : {X Y : Type 0} (xs : List X) (ys : List Y) (k : ℕ) (x : X) (y : Y) → slice_get xs k ≡ Some x → slice_get ys k ≡ Some y → slice_get (zip xs ys) k ≡ Some (x, y)
-zip_at [] ys k x y h g = cc
-zip_at (a ∷ xs) [] k x y h g = cc
-zip_at (a ∷ xs) (c ∷ ys) zero x y h g = let one : a ≡ x = cc in let two : c ≡ y = cc in ap (λ z. Some (z, c)) one ∙ ap (λ z. Some (x, z)) two
-zip_at (a ∷ xs) (c ∷ ys) (suc k) x y h g = zip_at xs ys k x y h g
-
-pub zip_parts : {X Y : Type 0} (xs : List X) (ys : List Y) (k : ℕ) (p : X × Y) → slice_get (zip xs ys) k ≡ Some p → (slice_get xs k ≡ Some p.0) × (slice_get ys k ≡ Some p.1)
-zip_parts [] ys k p h = cc
-zip_parts (x ∷ xs) [] k p h = cc
-zip_parts {X} {Y} (x ∷ xs) (y ∷ ys) zero p h =
-    let made : X × Y = (x, y) in
-    let one : made ≡ p = cc in
-    (ap (λ (z : X × Y). Some z.0) one, ap (λ (z : X × Y). Some z.1) one)
-zip_parts (x ∷ xs) (y ∷ ys) (suc k) p h = zip_parts xs ys k p h
+use Rattle.build_laws.specs.BuiltRuns.{IsRunIn}
+use Rattle.build_laws.specs.Renaming.{name_in}
+use Rattle.build_laws.proofs.FilesLemmas.{right_obj, same_face}
+use Rattle.met_hosts.proofs.HostNumberLemmas.{program_id}
+use Rattle.appdir_build.proofs.FirstLemmas.{get_zip}
+use Rattle.build_laws.proofs.NeedsLemmas.{zip_parts}
+use Rattle.build_laws.proofs.NamesLemmas.{all_objects_there, host_at, lib_at, split_ids}
+use Rattle.build_laws.proofs.RunInLemmas.{run_there}
 
 -- ---- files of asks
 
@@ -97,7 +84,7 @@ file_at_place faces run j k p ask is a =
     ∙ ap (λ n. Some (version_file_of faces run n ask.file)) is.number
 
 pub own_ask_at : (faces : List Face) (run : Run) (j k : ℕ) (p : Occurrence) (ask : Ask) → Occurs faces run j p → slice_get p.face.asks k ≡ Some ask → slice_get (own_asks p) k ≡ Some (ask, version_file_of faces run j ask.file)
-own_ask_at faces run j k p ask is a = zip_at p.face.asks (files_named p) k ask (version_file_of faces run j ask.file) a (file_at_place faces run j k p ask is a)
+own_ask_at faces run j k p ask is a = get_zip p.face.asks (files_named p) k ask (version_file_of faces run j ask.file) a (file_at_place faces run j k p ask is a)
 
 -- ---- and their names
 

@@ -21,13 +21,13 @@ use Rattle.load_model.proofs.AskedNeeds.{map_get}
 use Rattle.moved_runs.specs.Alike.{IsSameAsk, is_written}
 use Rattle.object_changes.specs.Changing.{change_of_lib, change_of_program, first_told, own_file, own_files, told_files}
 use Rattle.object_changes.specs.NamedFiles.{NamedFile, all_files_named, told_name}
-use Rattle.moved_builds.specs.BuiltRuns.{IsRunIn}
-use Rattle.moved_builds.specs.Renaming.{is_bundled_in, name_in}
+use Rattle.build_laws.specs.BuiltRuns.{IsRunIn}
+use Rattle.build_laws.specs.Renaming.{is_bundled_in, name_in}
 use Rattle.moved_builds.proofs.AskMadeLemmas.{ask_made}
 use Rattle.moved_builds.proofs.AskedFileLemmas.{IsFileNamed, beside_named, file_named, named_in, not_program, one_face, own_ask_at}
-use Rattle.moved_builds.proofs.BesideLemmas.{IsLibThere, IsProgramThere}
-use Rattle.moved_builds.proofs.HostNumberLemmas.{lib_id}
-use Rattle.moved_builds.proofs.RunInLemmas.{obj_here, run_there}
+use Rattle.build_laws.proofs.BesideLemmas.{IsLibThere, IsProgramThere}
+use Rattle.met_hosts.proofs.HostNumberLemmas.{lib_id}
+use Rattle.build_laws.proofs.RunInLemmas.{obj_here, run_there}
 use Rattle.moved_builds.proofs.SymbolsKeptLemmas.{written_cases}
 use Rattle.moved_builds.proofs.ToldFileLemmas.{first_place, told_there}
 

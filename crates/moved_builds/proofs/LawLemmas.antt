@@ -31,15 +31,16 @@ use Rattle.moved_runs.specs.SameRuns.{RunsSame}
 use Rattle.moved_runs.proofs.MovingLemmas.{moved_list}
 use Rattle.moved_runs.proofs.OpenedLemmas.{moved_opens}
 use Rattle.moved_runs.proofs.SameRunLemmas.{runs_same}
-use Rattle.moved_builds.specs.BuiltRuns.{IsRunIn}
-use Rattle.moved_builds.specs.Premises.{IsHome, IsSource}
-use Rattle.moved_builds.specs.Renaming.{IsProgramOf, as_items, is_bundled_in, name_in}
+use Rattle.build_laws.specs.BuiltRuns.{IsRunIn}
+use Rattle.build_laws.specs.Sources.{IsSource}
+use Rattle.moved_builds.specs.Homes.{IsHome}
+use Rattle.build_laws.specs.Renaming.{IsProgramOf, as_items, is_bundled_in, name_in}
 use Rattle.moved_builds.proofs.AlikeLemmas.{alike}
-use Rattle.moved_builds.proofs.BesideLemmas.{objects_for}
-use Rattle.moved_builds.proofs.GoingLemmas.{host_needs}
-use Rattle.moved_builds.proofs.NamesLemmas.{host_of}
-use Rattle.moved_builds.proofs.OpensLemmas.{opens_stay}
-use Rattle.moved_builds.proofs.OverLemmas.{runs_over}
+use Rattle.build_laws.proofs.BesideLemmas.{objects_for}
+use Rattle.build_laws.proofs.GoingLemmas.{host_needs}
+use Rattle.build_laws.proofs.NamesLemmas.{host_of}
+use Rattle.build_laws.proofs.OpensLemmas.{opens_stay}
+use Rattle.build_laws.proofs.OverLemmas.{runs_over}
 use Rattle.moved_builds.proofs.PlacedLemmas.{as_host, as_lib, as_program, record_libs, there_count}
 use Rattle.moved_builds.proofs.PremiseLemmas.{moved}
 

@@ -27,7 +27,7 @@ use Rattle.moved_runs.specs.Places.{IsItem}
 use Rattle.moved_runs.proofs.PlaceLemmas.{same_tail}
 use Rattle.moved_runs.proofs.SearchLemmas.{decided_at}
 use Rattle.ports.specs.declared.folders.MemFile.{MemFile}
-use Rattle.moved_builds.specs.Renaming.{as_items, as_placed}
+use Rattle.build_laws.specs.Renaming.{as_items, as_placed}
 
 -- ---- what the directory has
 

@@ -55,18 +55,19 @@ use Rattle.path_text.specs.Path.{IsNormalPath, folder_of}
 use Rattle.path_text.proofs.NameLemmas.{IsFileName-from_test}
 use Rattle.ports.specs.declared.folders.MemFile.{MemFile}
 use Rattle.two_files.specs.Alike.{face_with}
-use Rattle.moved_builds.specs.BuiltRuns.{IsRunIn}
-use Rattle.moved_builds.specs.Premises.{IsHome}
-use Rattle.moved_builds.specs.Renaming.{as_items, is_bundled_in, name_in}
-use Rattle.moved_builds.proofs.BesideLemmas.{IsHostThere, IsLibThere, IsProgramThere, IsRewrittenBy, object_for, object_lying, object_listed, objects_for}
-use Rattle.moved_builds.proofs.FaceLemmas.{HasTexts, new_right, new_texts}
-use Rattle.moved_builds.proofs.FilesLemmas.{right_obj, same_face}
-use Rattle.moved_builds.proofs.GoingLemmas.{IsFirst, Stands, first_named, host_named, own_named, stands}
-use Rattle.moved_builds.proofs.HostLemmas.{HasFile, has_file}
+use Rattle.build_laws.specs.BuiltRuns.{IsRunIn}
+use Rattle.moved_builds.specs.Homes.{IsHome}
+use Rattle.build_laws.specs.Renaming.{as_items, is_bundled_in, name_in}
+use Rattle.build_laws.proofs.BesideLemmas.{IsHostThere, IsLibThere, IsProgramThere, IsRewrittenBy, object_for, object_lying, object_listed, objects_for}
+use Rattle.build_laws.proofs.FaceLemmas.{HasTexts, new_right, new_texts}
+use Rattle.build_laws.proofs.FilesLemmas.{right_obj, same_face}
+use Rattle.build_laws.proofs.GoingLemmas.{IsFirst, Stands, first_named, host_named, own_named, stands}
+use Rattle.met_hosts.specs.Libraries.{HasLibrary}
+use Rattle.met_hosts.proofs.HostLemmas.{has_file}
 use Rattle.moved_builds.proofs.LyingLemmas.{IsFoundAt, lib_lies, lies_at, program_lies}
-use Rattle.moved_builds.proofs.NamesLemmas.{IsHostOf, IsLibAt, IsLibOf, host_name, host_of, layout_named, lib_of}
-use Rattle.moved_builds.proofs.RunInLemmas.{obj_here, run_there}
-use Rattle.moved_builds.proofs.WrittenLemmas.{IsLibMade, IsMadeOf, IsProgramMade, lib_made, program_made}
+use Rattle.build_laws.proofs.NamesLemmas.{IsHostOf, IsLibAt, IsLibOf, host_name, host_of, layout_named, lib_of}
+use Rattle.build_laws.proofs.RunInLemmas.{obj_here, run_there}
+use Rattle.build_laws.proofs.WrittenLemmas.{IsLibMade, IsMadeOf, IsProgramMade, lib_made, program_made}
 
 -- ---- the texts of changes
 
@@ -232,7 +233,7 @@ module _ (world : World) (config : Config) (b : Building) (number : ℕ) (start 
     pub stands_here : Stands world config b number start run path at j o
     pub host : IsHostOf b run j stands_here.obj
     pub face : slice_get b.faces host.host.host.face ≡ Some o.face
-    pub file : HasFile setting there home.dirs_normal (record_in b) home.meets (recorded_lib b.faces host.host.host)
+    pub file : HasLibrary setting there (recorded_lib b.faces host.host.host)
     pub same : q ≡ file.it
 
   host_face : (j : ℕ) (o : Object) (s : Stands world config b number start run path at j o) (w : IsHostOf b run j s.obj) → slice_get b.faces w.host.host.face ≡ Some o.face

@@ -38,20 +38,20 @@ use Rattle.object_changes.specs.Names.{goes_to_bundled}
 use Rattle.object_changes.proofs.ChangeLemmas.{path_at}
 use Rattle.object_changes.proofs.StandingLemmas.{all_at}
 use Rattle.ports.specs.declared.folders.MemFile.{MemFile}
-use Rattle.moved_builds.specs.BuiltRuns.{IsRunIn}
-use Rattle.moved_builds.specs.Premises.{IsHome}
-use Rattle.moved_builds.specs.Renaming.{as_items, is_bundled_in, name_in}
-use Rattle.moved_builds.proofs.BesideLemmas.{objects_for}
-use Rattle.moved_builds.proofs.FaceLemmas.{new_texts}
-use Rattle.moved_builds.proofs.GoingLemmas.{first_bundled, host_need, own_bundled, stands}
-use Rattle.moved_builds.proofs.HostLemmas.{files_apart}
-use Rattle.moved_builds.proofs.LoadedLemmas.{asked_as, ids_differ, target_there, went}
+use Rattle.build_laws.specs.BuiltRuns.{IsRunIn}
+use Rattle.moved_builds.specs.Homes.{IsHome}
+use Rattle.build_laws.specs.Renaming.{as_items, is_bundled_in, name_in}
+use Rattle.build_laws.proofs.BesideLemmas.{objects_for}
+use Rattle.build_laws.proofs.FaceLemmas.{new_texts}
+use Rattle.build_laws.proofs.GoingLemmas.{first_bundled, host_need, own_bundled, stands}
+use Rattle.met_hosts.proofs.HostLemmas.{files_apart}
+use Rattle.build_laws.proofs.LoadedLemmas.{asked_as, ids_differ, target_there, went}
 use Rattle.moved_builds.proofs.LyingLemmas.{libs_alone, program_off_libs}
-use Rattle.moved_builds.proofs.NamesLemmas.{distinct, host_of, kinds_apart, lib_of, name_below, never}
-use Rattle.moved_builds.proofs.NeedsLemmas.{beside, bundled_by}
+use Rattle.build_laws.proofs.NamesLemmas.{distinct, host_of, kinds_apart, lib_of, name_below, never}
+use Rattle.build_laws.proofs.NeedsLemmas.{beside, bundled_by}
 use Rattle.moved_builds.proofs.PlacedLemmas.{IsHostPlaced, IsLibPlaced, IsProgramPlaced, chosen_so, first_place, host_file, host_placed, host_soname, lib_placed, lib_soname, lib_texts, lib_written, libs_lead, program_leads, program_placed, program_texts, program_written, record_libs, there_count}
-use Rattle.moved_builds.proofs.RunInLemmas.{obj_here, run_there}
-use Rattle.moved_builds.proofs.TableLemmas.{names_are_texts}
+use Rattle.build_laws.proofs.RunInLemmas.{obj_here, run_there}
+use Rattle.build_laws.proofs.TableLemmas.{names_are_texts}
 
 module _ (world : World) (config : Config) (b : Building) (number : ℕ) (start : Start) (run : Run) (path : List ℕ) (at : IsRunIn world config b number start run path) (written : first_unwritten world b ≡ None) (setting : Setting) (there : World) (place : List ℕ) (home : IsHome there config b setting place (files_of world config b)) where
   abbrev loaded : Loaded

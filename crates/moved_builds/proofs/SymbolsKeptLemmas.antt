@@ -11,9 +11,9 @@ use Rattle.load_model.specs.declared.runs.Run.{Run}
 use Rattle.moved_runs.specs.Alike.{KeepsSymbols, is_written}
 use Rattle.object_rewriting.proofs.NamingLemmas.{with_face}
 use Rattle.two_files.specs.Alike.{face_with}
-use Rattle.moved_builds.specs.Renaming.{is_bundled_in}
-use Rattle.moved_builds.proofs.BesideLemmas.{IsLibThere, IsProgramThere, IsRewrittenBy}
-use Rattle.moved_builds.proofs.FaceLemmas.{new_face}
+use Rattle.build_laws.specs.Renaming.{is_bundled_in}
+use Rattle.build_laws.proofs.BesideLemmas.{IsLibThere, IsProgramThere, IsRewrittenBy}
+use Rattle.build_laws.proofs.FaceLemmas.{new_face}
 
 symbols_with : (file : List ℕ) (change : Change) → KeepsSymbols (face_of file) (face_with file (wanted_of file change))
 unfolding face_of face_with

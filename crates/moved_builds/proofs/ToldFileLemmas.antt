@@ -31,8 +31,10 @@ use Rattle.load_model.proofs.TwoWorlds.{same_bytes}
 use Rattle.object_changes.specs.NamedFiles.{NamedFile, all_files_named, asked_name, files_named_at, named_file, tells, told_name}
 use Rattle.object_changes.specs.Names.{name_beside, new_name_of}
 use Rattle.text_sets.proofs.FoundLemmas.{find_passes}
-use Rattle.moved_builds.specs.BuiltRuns.{IsRunIn}
-use Rattle.moved_builds.proofs.AskedFileLemmas.{IsFileNamed, all_met, beside_named, face_of_occurrence, file_at_place, file_named, met_ask, one_face, own_ask_at, zip_at, zip_parts}
+use Rattle.build_laws.specs.BuiltRuns.{IsRunIn}
+use Rattle.moved_builds.proofs.AskedFileLemmas.{IsFileNamed, all_met, beside_named, face_of_occurrence, file_at_place, file_named, met_ask, one_face, own_ask_at}
+use Rattle.appdir_build.proofs.FirstLemmas.{get_zip}
+use Rattle.build_laws.proofs.NeedsLemmas.{zip_parts}
 
 -- ---- objects that are found by their identity at their first place
 
@@ -88,7 +90,7 @@ module _ (b : Building) (names : List (List ℕ)) (split_is : split_of b.faces b
       let none = not_split p c same in
       let files = (none_first (first_file_split b.faces b.runs names first.it p) [] (none_first (first_need_split b.faces b.runs names first.it p) (first_file_split b.faces b.runs names first.it p ∷ []) none).1).0 in
       let both : Option ℕ × (Ask × Option ℕ) = (Some s, (ask, Some t)) in
-      let pair : slice_get (zip (files_named first.it) (own_asks p)) i ≡ Some both = zip_at (files_named first.it) (own_asks p) i (Some s) (ask, Some t) f g in
+      let pair : slice_get (zip (files_named first.it) (own_asks p)) i ≡ Some both = get_zip (files_named first.it) (own_asks p) i (Some s) (ask, Some t) f g in
       let at : file_split b.faces b.runs names first.it p both ≡ None = none_gives (file_split b.faces b.runs names first.it p) (zip (files_named first.it) (own_asks p)) both files (at_place (zip (files_named first.it) (own_asks p)) i both pair) in
       let goes : goes_elsewhere b.faces b.runs names p ask.file (Some x) (Some y) ≡ None = sym (ap₂ (goes_elsewhere b.faces b.runs names p ask.file) hx hy) ∙ at in
       same_bytes x.obj.id y.obj.id (shown (bytes_eq x.obj.id y.obj.id) (SplitNeed (path_of_object b.faces b.runs names p) ask.file (path_of_object b.faces b.runs names x) (path_of_object b.faces b.runs names y)) goes)

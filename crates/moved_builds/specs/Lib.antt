@@ -1,3 +1,1 @@
-pub mod BuiltRuns
-pub mod Premises
-pub mod Renaming
+pub mod Homes

@@ -2,10 +2,8 @@
 //! laws of the definitions in `specs/`, with no code.
 #![tactic(auto)]
 
-mod name_laws;
 mod place_laws;
 mod run_laws;
 
-pub use name_laws::names_of_objects;
 pub use place_laws::{built_programs_are_moved, built_programs_load_there};
 pub use run_laws::built_programs_run_same;

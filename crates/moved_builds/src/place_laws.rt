@@ -19,9 +19,10 @@ ghost use Rattle.load_model.specs.declared.runs.Run.{Run};
 ghost use Rattle.load_model.specs.declared.setting.Setting.{Setting};
 ghost use Rattle.moved_runs.specs.OpenedThere.{MayBeOpened};
 ghost use Rattle.moved_runs.specs.Places.{IsMoved};
-ghost use Rattle.moved_builds.specs.Premises.{IsHome, IsSource};
-ghost use Rattle.moved_builds.specs.Renaming.{IsProgramOf, as_items, is_bundled_in, name_in};
-ghost use Rattle.moved_builds.specs.BuiltRuns.{IsRunIn};
+ghost use Rattle.build_laws.specs.Sources.{IsSource};
+ghost use Rattle.moved_builds.specs.Homes.{IsHome};
+ghost use Rattle.build_laws.specs.Renaming.{IsProgramOf, as_items, is_bundled_in, name_in};
+ghost use Rattle.build_laws.specs.BuiltRuns.{IsRunIn};
 
 /// Where a configuration comes to a directory, and this lies at a place that meets the premises, its
 /// programs are moved programs there.

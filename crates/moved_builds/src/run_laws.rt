@@ -10,8 +10,9 @@ ghost use Rattle.load_model.specs.World.{World};
 ghost use Rattle.load_model.specs.declared.runs.Run.{Run};
 ghost use Rattle.load_model.specs.declared.setting.Setting.{Setting};
 ghost use Rattle.moved_runs.specs.SameRuns.{RunsSame};
-ghost use Rattle.moved_builds.specs.Premises.{IsHome, IsSource};
-ghost use Rattle.moved_builds.specs.Renaming.{IsProgramOf, is_bundled_in, name_in};
+ghost use Rattle.build_laws.specs.Sources.{IsSource};
+ghost use Rattle.moved_builds.specs.Homes.{IsHome};
+ghost use Rattle.build_laws.specs.Renaming.{IsProgramOf, is_bundled_in, name_in};
 
 /// Where a configuration comes to a directory, and this lies at a place of a world that meets the
 /// premises, each of its programs runs there as it does here: its versions are met, and the two runs

@@ -1,4 +1,4 @@
-use Rattle.moved_builds.proofs.BesideLemmas.{objects_for}
+use Rattle.build_laws.proofs.BesideLemmas.{objects_for}
 use Rattle.moved_builds.proofs.LawLemmas.{package_moved, run_in}
 use Rattle.moved_builds.proofs.place_laws.built_programs_are_moved.Goals as goal
 

@@ -1,0 +1,13 @@
+pub mod BesideLemmas
+pub mod FaceLemmas
+pub mod FilesLemmas
+pub mod GoingLemmas
+pub mod ImageLemmas
+pub mod LoadedLemmas
+pub mod NamesLemmas
+pub mod NeedsLemmas
+pub mod OpensLemmas
+pub mod OverLemmas
+pub mod RunInLemmas
+pub mod TableLemmas
+pub mod WrittenLemmas

@@ -1,0 +1,3 @@
+pub mod BuiltRuns
+pub mod Renaming
+pub mod Sources

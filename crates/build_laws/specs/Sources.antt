@@ -1,0 +1,31 @@
+-- What must hold of the world and of the configuration that a build is made of, so that its programs
+-- run the same elsewhere.
+use Rattle.std.specs.Prelude.{ℕ, List, [], ◌≡◌, All, IsUtf8, None}
+use Rattle.app_config.specs.declared.config.Config.{Config}
+use Rattle.app_config.specs.declared.config.Program.{Program}
+use Rattle.build_plan.specs.Building.{starts_of}
+use Rattle.build_runs.specs.declared.programs.Start.{Start}
+use Rattle.load_model.specs.Escaping.{AreBytes}
+use Rattle.load_model.specs.World.{IsWorld, World}
+use Rattle.load_model.specs.declared.world.WorldFile.{WorldFile}
+use Rattle.path_text.specs.FileName.{IsFileName}
+
+-- A name that a file can be given, as a text.
+abbrev pub IsNameText : List ℕ → Type 0
+IsNameText name = IsFileName name × IsUtf8 name
+
+pub record IsSource (world : World) (config : Config) : Type 0 where
+  -- so that objects of one identity are one file, and their paths are texts
+  pub world_is : IsWorld world
+  -- so that a rewritten file has the face that is wanted
+  pub bytes : All (λ (f : WorldFile). AreBytes f.bytes) world
+  -- so that the names of host libraries are looked for in the listed directories
+  pub names : All IsNameText config.names
+  -- so that opened names are, too
+  pub opens : All (λ (start : Start). All IsNameText start.opens) (starts_of config)
+  -- so that the run paths of programs lead to the folder of libraries
+  pub tools : All (λ (tool : Program). IsFileName tool.name) config.tools
+  -- so that nothing but bundled libraries lies in this folder
+  pub data_files : config.files ≡ []
+  pub icon : config.icon ≡ None
+  pub desktop : config.desktop ≡ None
