@@ -1,5 +1,5 @@
 -- The objects there, each in the place of one from here, and what is known of each of them.
-use Rattle.std.proofs.Common.{◌≡◌, ℕ, zero, suc, List, cond, Option, Some, None, Result, Ok, map, slice_get}
+use Rattle.std.proofs.Common.{◌≡◌, ℕ, zero, suc, List, cond, Some, Ok, map, slice_get}
 use Rattle.std.specs.List.{enumerate_from, find}
 use Rattle.build_plan.specs.Building.{Building}
 use Rattle.elf_rewrite.specs.FittingFace.{FitsFace}

@@ -1,11 +1,10 @@
 -- What a loader sees of files that are rewritten, and that they are for the same machine.
-use Rattle.std.proofs.Common.{◌≡◌, ◌∙◌, sym, ap, refl, subst, ℕ, ◌≤◌, ◌&&◌, ◌==◌, List, [], ◌∷◌, Bool, true, false, Option, Some, None, Result, Ok, Err, eqb, length, nat_le, arith}
+use Rattle.std.proofs.Common.{◌≡◌, ◌∙◌, sym, ap, refl, subst, ℕ, ◌≤◌, ◌&&◌, ◌==◌, List, [], ◌∷◌, Bool, true, false, None, Ok, eqb, length, nat_le, arith}
 use Rattle.std.specs.Prelude.{not}
 use Rattle.std.specs.List.{starts_with}
-use Rattle.std.proofs.lemmas.Bool.{le-leb, not-false}
+use Rattle.std.proofs.lemmas.Bool.{le-leb}
 use Rattle.answers.specs.First.{some_where}
 use Rattle.byte_view.proofs.Loads.{none_first}
-use Rattle.byte_view.specs.Checks.{flaw}
 use Rattle.byte_view.specs.DynamicFlaws.{dynamic_flaw}
 use Rattle.byte_view.specs.HeaderFlaws.{header_flaw, ident_flaw, not_elf, segment_flaw, short_header, too_big, word_flaw, wrong_class, wrong_ident_version, wrong_order, wrong_version}
 use Rattle.byte_view.specs.Headers.{e_machine, ei_class, ei_data, headers}
@@ -14,7 +13,7 @@ use Rattle.byte_view.specs.declared.flaws.Flaw.{Flaw}
 use Rattle.elf_face.proofs.Within.{header_whole}
 use Rattle.elf_rewrite.specs.NewFile.{wanted_of}
 use Rattle.elf_rewrite.specs.declared.change.Change.{Change}
-use Rattle.load_model.specs.Faces.{face_of, face_or_flaw, first_flaw, name_flaw}
+use Rattle.load_model.specs.Faces.{face_of, first_flaw, name_flaw}
 use Rattle.load_model.specs.LoadList.{Object}
 use Rattle.load_model.specs.SymbolFlaws.{symbol_count, symbol_flaw}
 use Rattle.load_model.specs.VersionFlaws.{version_flaw}

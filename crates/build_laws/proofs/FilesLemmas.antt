@@ -1,12 +1,11 @@
 -- Objects of the runs of a build are files of the world, and those of one identity are alike.
-use Rattle.std.proofs.Common.{◌≡◌, ◌∙◌, sym, ap, refl, subst, ℕ, List, All, Bool, false, Option, Some, Result, Ok, slice_get}
+use Rattle.std.proofs.Common.{◌≡◌, ◌∙◌, sym, ap, ℕ, List, false, Some, Ok, slice_get}
 use Rattle.std.specs.List.{Contains}
 use Rattle.app_config.specs.declared.config.Config.{Config}
 use Rattle.build_plan.specs.Building.{Building, starts_of}
 use Rattle.build_runs.specs.BuildRuns.{IsRunFor}
 use Rattle.build_runs.specs.declared.programs.Start.{Start}
 use Rattle.build_runs.proofs.ZipLemmas.{zip_back}
-use Rattle.byte_view.specs.declared.flaws.Flaw.{Flaw}
 use Rattle.lib_closure.proofs.ContainedLemmas.{place_of}
 use Rattle.load_model.specs.Escaping.{AreBytes}
 use Rattle.load_model.specs.Faces.{face_or_flaw}
@@ -18,7 +17,7 @@ use Rattle.load_model.specs.declared.world.WorldFile.{WorldFile}
 use Rattle.moved_runs.proofs.SearchLemmas.{find_at}
 use Rattle.object_changes.proofs.StandingLemmas.{all_at}
 use Rattle.build_laws.specs.BuiltRuns.{IsRunIn}
-use Rattle.build_laws.proofs.LoadedLemmas.{IsRightFile, right_file}
+use Rattle.build_laws.proofs.LoadedLemmas.{right_file}
 
 -- An object over a table of faces is a file of the world, for this machine.
 pub record IsRightObj (world : World) (machine : ℕ) (faces : List Face) (x : Obj) : Type 0 where

@@ -1,12 +1,9 @@
 -- Where the needs of each object of a run go, and what they become.
-use Rattle.std.proofs.Common.{◌≡◌, ◌∙◌, sym, ap, refl, subst, ℕ, zero, suc, ◌<◌, ◌||◌, List, [], All, Bool, true, false, cond, Option, Some, None, is_some, length, map, slice_get, arith, inl, inr}
-use Rattle.std.specs.Prelude.{◌⊎◌}
-use Rattle.std.specs.List.{Contains, find, list_any}
-use Rattle.std.specs.Option.{option_and_then, unwrap_or}
+use Rattle.std.proofs.Common.{◌≡◌, ◌∙◌, sym, ap, refl, subst, ℕ, ◌<◌, List, [], true, false, Some, length, map, slice_get, arith, inl, inr}
+use Rattle.std.specs.List.{Contains, find}
 use Rattle.std.proofs.lemmas.Bool.{both_ways, cases_lt}
 use Rattle.std.proofs.lemmas.List.Elements.{All-contains}
 use Rattle.std.proofs.lemmas.Option.{slice_get_within}
-use Rattle.answers.specs.First.{some_where}
 use Rattle.app_config.specs.declared.config.Config.{Config}
 use Rattle.build_plan.specs.Building.{Building}
 use Rattle.build_runs.specs.declared.programs.Start.{Start}
@@ -30,13 +27,12 @@ use Rattle.load_model.specs.declared.runs.Obj.{Obj}
 use Rattle.load_model.specs.declared.runs.Run.{Run}
 use Rattle.load_model.proofs.AskedNeeds.{get_map, map_get}
 use Rattle.moved_runs.specs.Moved.{new_name, new_names}
-use Rattle.name_layout.specs.Openings.{lib_with}
-use Rattle.object_changes.specs.Changing.{has_bundled_need, has_bundled_root, new_needs}
-use Rattle.object_changes.specs.Names.{goes_to_bundled, new_name_of}
+use Rattle.object_changes.specs.Changing.{has_bundled_need, new_needs}
+use Rattle.object_changes.specs.Names.{new_name_of}
 use Rattle.build_laws.specs.BuiltRuns.{IsRunIn}
 use Rattle.build_laws.specs.Renaming.{is_bundled_in, name_in}
 use Rattle.build_laws.proofs.NamesLemmas.{IsHostAt, IsHostOf, IsLibAt, all_objects_there, as_library, host_of, lib_of, program_apart}
-use Rattle.build_laws.proofs.NeedsLemmas.{GoesTo, bundled_by, counted, first_goes, goes_at, has_need, host_goes, map_stays_by, needs_named, own_targets_are, beside}
+use Rattle.build_laws.proofs.NeedsLemmas.{GoesTo, counted, first_goes, goes_at, has_need, host_goes, map_stays_by, needs_named, own_targets_are, beside}
 use Rattle.build_laws.proofs.RunInLemmas.{obj_here, run_there}
 use Rattle.build_laws.proofs.WrittenLemmas.{members_of_libs}
 

@@ -1,6 +1,5 @@
 -- A written file has the memory of the one that it is made of, but for what a change writes over it.
-use Rattle.std.proofs.Common.{◌≡◌, ◌∙◌, sym, ap, refl, subst, ℕ, ◌++◌, List, Option, Some, None, Ok, inl, inr, length, map, slice_get, zip}
-use Rattle.std.specs.Prelude.{◌⊎◌}
+use Rattle.std.proofs.Common.{◌≡◌, ◌∙◌, sym, ap, subst, ℕ, ◌++◌, List, Some, None, inl, inr, map, slice_get, zip}
 use Rattle.std.specs.List.{Contains}
 use Rattle.std.proofs.lemmas.List.Elements.{Contains-append_cases}
 use Rattle.app_config.specs.declared.config.Config.{Config}

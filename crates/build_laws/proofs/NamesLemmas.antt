@@ -1,7 +1,7 @@
 -- The names of the objects of a run: file names of bundled libraries, and keys of host libraries.
-use Rattle.std.proofs.Common.{◌≡◌, ◌≢◌, ◌∙◌, sym, ap, refl, subst, ℕ, ◌<◌, List, [], All, Bool, true, false, Option, Some, None, is_some, bytes_eq, get_or, length, map, slice_get, arith, inl, inr}
-use Rattle.std.specs.Prelude.{◌⊎◌, AllPairs, IsUtf8, Ok, position}
-use Rattle.std.specs.List.{Contains, filter_map, find, list_any}
+use Rattle.std.proofs.Common.{◌≡◌, ◌≢◌, ◌∙◌, sym, ap, refl, subst, ℕ, ◌<◌, List, [], All, true, false, Option, Some, None, is_some, bytes_eq, get_or, length, map, slice_get, arith, inl, inr}
+use Rattle.std.specs.Prelude.{◌⊎◌, AllPairs, IsUtf8, position}
+use Rattle.std.specs.List.{Contains, filter_map, find}
 use Rattle.std.specs.Option.{option_and_then, option_map, option_or, unwrap_or}
 use Rattle.std.proofs.lemmas.Bool.{both_ways, cases_lt}
 use Rattle.std.proofs.lemmas.List.Elements.{All-contains}
@@ -18,7 +18,7 @@ use Rattle.lib_closure.specs.Splits.{member_of, parts_of_build}
 use Rattle.lib_closure.specs.declared.splits.HostLib.{HostLib}
 use Rattle.lib_closure.specs.declared.splits.Member.{Member}
 use Rattle.lib_closure.specs.declared.splits.Split.{Split}
-use Rattle.lib_closure.proofs.ContainedLemmas.{at_place, found_in, in_filter_map, in_map, none_passes, of_any, of_map, place_of, Made}
+use Rattle.lib_closure.proofs.ContainedLemmas.{at_place, found_in, in_filter_map, in_map, none_passes, of_any, of_map, Made}
 use Rattle.lib_closure.proofs.NumberLemmas.{number_at}
 use Rattle.lib_closure.proofs.PlacedLemmas.{bytes_same, standing_at}
 use Rattle.lib_closure.proofs.ReachedLemmas.{all_there, hosts_closed}

@@ -1,41 +1,31 @@
 -- Where the needs of objects go, and that each becomes the name of its target.
-use Rattle.std.proofs.Common.{◌≡◌, ◌∙◌, sym, ap, ap₂, refl, subst, ℕ, zero, suc, ◌<◌, ◌||◌, List, [], ◌∷◌, All, Bool, true, false, cond, Option, Some, None, is_some, bytes_eq, filter, length, map, slice_get, zip, arith, inl, inr}
-use Rattle.std.specs.Prelude.{◌⊎◌, not, Ok}
-use Rattle.std.specs.List.{Contains, find, list_any}
+use Rattle.std.proofs.Common.{◌≡◌, ◌∙◌, sym, ap, ap₂, refl, subst, ℕ, zero, suc, ◌<◌, List, [], ◌∷◌, All, Bool, true, false, cond, Option, Some, None, is_some, bytes_eq, length, map, slice_get, zip, arith}
+use Rattle.std.specs.Prelude.{not}
+use Rattle.std.specs.List.{Contains, find}
 use Rattle.std.specs.Option.{option_and_then, option_map, unwrap_or}
-use Rattle.std.proofs.lemmas.Bool.{both_ways, not-false}
+use Rattle.std.proofs.lemmas.Bool.{not-false}
 use Rattle.std.proofs.lemmas.List.Elements.{All-contains}
 use Rattle.std.proofs.lemmas.Option.{slice_get_within}
-use Rattle.answers.specs.First.{first_some, some_where}
-use Rattle.app_config.specs.declared.config.Config.{Config}
+use Rattle.answers.specs.First.{some_where}
 use Rattle.build_plan.specs.Building.{Building}
-use Rattle.build_runs.specs.declared.programs.Start.{Start}
-use Rattle.lib_closure.specs.Clashes.{first_file_split, first_need_split, goes_elsewhere, host_alias, host_needs_unlisted, hosts_of, is_alias, is_other_key, key_of_object, need_alias, need_split, need_unlisted, needs_bundled, path_of_object, split_at, split_from, split_need}
+use Rattle.lib_closure.specs.Clashes.{first_file_split, first_need_split, goes_elsewhere, host_alias, host_needs_unlisted, is_alias, is_other_key, key_of_object, need_alias, need_split, need_unlisted, needs_bundled, path_of_object, split_at, split_from, split_need}
 use Rattle.lib_closure.specs.Kinds.{is_bundled, is_bundled_if_any, is_host_library}
 use Rattle.lib_closure.specs.Objects.{Occurrence, all_objects, first_place_of, first_places, has_id, in_same_list, key_held, occurrence_at, own_needs, own_targets}
-use Rattle.lib_closure.specs.Splits.{bundled_of, host_lib_of, member_of, parts_of_build}
-use Rattle.lib_closure.specs.declared.splits.HostLib.{HostLib}
 use Rattle.lib_closure.specs.declared.splits.Member.{Member}
-use Rattle.lib_closure.specs.declared.splits.Split.{Split}
 use Rattle.lib_closure.specs.declared.stops.ClosureStop.{ClosureStop}
 use Rattle.lib_closure.specs.declared.stops.ClosureStop.TheVariants.{HostAlias, HostNeedsUnlisted, SplitNeed}
-use Rattle.lib_closure.proofs.ContainedLemmas.{any_in, at_place, is_there, none_gives, none_passes, of_filter, place_of}
-use Rattle.lib_closure.proofs.PlacedLemmas.{Comes, FirstOf, Occurs, first_in_all, first_of, in_all, occurs, of_all, placed, standing_at}
-use Rattle.lib_closure.proofs.SplitLemmas.{IsUnclashed, bundled_alike, host_alike, host_first, none_first, none_mapped, unclashed}
-use Rattle.load_model.specs.LoadList.{Loaded, Object}
-use Rattle.load_model.specs.Runs.{IsRunOver, face_at, need_targets, target_in}
-use Rattle.load_model.specs.World.{World}
+use Rattle.lib_closure.proofs.ContainedLemmas.{any_in, at_place, is_there, none_gives, none_passes}
+use Rattle.lib_closure.proofs.PlacedLemmas.{Occurs, first_in_all, first_of, in_all, occurs, of_all, standing_at}
+use Rattle.lib_closure.proofs.SplitLemmas.{none_first, none_mapped}
+use Rattle.load_model.specs.Runs.{IsRunOver, face_at}
 use Rattle.load_model.specs.declared.faces.Face.{Face}
 use Rattle.load_model.specs.declared.runs.Obj.{Obj}
 use Rattle.load_model.specs.declared.runs.Run.{Run}
-use Rattle.load_model.proofs.AskedNeeds.{get_map, map_get}
 use Rattle.load_model.proofs.TwoWorlds.{same_bytes}
 use Rattle.appdir_build.proofs.FirstLemmas.{get_zip}
 use Rattle.name_layout.specs.Openings.{lib_with}
-use Rattle.name_layout.specs.declared.layouts.Layout.{Layout}
 use Rattle.object_changes.specs.Changing.{has_bundled_need, new_need, new_needs}
 use Rattle.object_changes.specs.Names.{goes_to_bundled, name_beside, new_name_of}
-use Rattle.build_laws.specs.BuiltRuns.{IsRunIn}
 
 -- ---- lists side by side
 

@@ -1,14 +1,13 @@
 -- Each opened name is the name of what it goes to.
-use Rattle.std.proofs.Common.{◌≡◌, ◌∙◌, sym, ap, refl, subst, ℕ, ◌<◌, List, [], ◌∷◌, Bool, true, false, Option, Some, None, bytes_eq, length, map, slice_get, take, zip, arith, ◌++◌, inl, inr}
+use Rattle.std.proofs.Common.{◌≡◌, ◌∙◌, sym, ap, refl, subst, ℕ, List, [], ◌∷◌, Bool, true, false, Option, Some, None, bytes_eq, slice_get, take, zip, ◌++◌, inl, inr}
 use Rattle.std.specs.Prelude.{not}
-use Rattle.std.specs.List.{Contains, filter_map, find, flat_map}
+use Rattle.std.specs.List.{Contains, find}
 use Rattle.std.specs.Option.{option_and_then, option_map}
-use Rattle.answers.specs.First.{first_some, some_where}
+use Rattle.answers.specs.First.{some_where}
 use Rattle.app_config.specs.declared.config.Config.{Config}
 use Rattle.appdir_build.proofs.FirstLemmas.{get_zip}
 use Rattle.build_plan.specs.Building.{Building}
 use Rattle.build_runs.specs.declared.programs.Start.{Start}
-use Rattle.lib_closure.specs.SplitLaws.{IsLibraryId}
 use Rattle.lib_closure.specs.declared.splits.HostLib.{HostLib}
 use Rattle.lib_closure.specs.declared.splits.Member.{Member}
 use Rattle.lib_closure.proofs.ContainedLemmas.{at_place, in_filter_map, in_flat_map, none_gives, none_passes}
@@ -18,14 +17,13 @@ use Rattle.load_model.specs.Faces.{face_or_flaw}
 use Rattle.load_model.specs.LoadList.{Loaded}
 use Rattle.load_model.specs.Runs.{target_in}
 use Rattle.load_model.specs.World.{World}
-use Rattle.load_model.specs.declared.faces.Face.{Face}
 use Rattle.load_model.specs.declared.runs.Obj.{Obj}
 use Rattle.load_model.specs.declared.runs.Run.{Run}
 use Rattle.load_model.proofs.AskedNeeds.{map_get}
 use Rattle.load_model.proofs.TwoWorlds.{same_bytes}
 use Rattle.moved_runs.specs.Moved.{new_name, new_names}
 use Rattle.name_layout.specs.Layouts.{HasName, given_names, opened_name}
-use Rattle.name_layout.specs.Openings.{Opening, bundled_openings, bundled_stop, first_of_name, first_of_root, first_opening_stop, host_with, lib_with, name_given, opened_alias, opened_as_host, opening, opening_stop, openings, openings_of, renamed}
+use Rattle.name_layout.specs.Openings.{Opening, bundled_stop, first_of_name, first_of_root, first_opening_stop, host_with, lib_with, name_given, opened_alias, opened_as_host, opening, opening_stop, openings, openings_of, renamed}
 use Rattle.name_layout.specs.declared.stops.NameStop.{NameStop}
 use Rattle.name_layout.specs.declared.stops.NameStop.TheVariants.{OpenAlias, TwoOpenNames}
 use Rattle.name_layout.proofs.LawLemmas.{stop_none}

@@ -1,5 +1,5 @@
 -- A run that is a load list has its numbers in range.
-use Rattle.std.proofs.Common.{◌≡◌, ◌∙◌, sym, ap, refl, subst, ℕ, zero, suc, ◌+◌, ◌≤◌, ◌<◌, ◌^◌, ◌==◌, List, [], ◌∷◌, ◌++◌, All, Bool, true, false, cond, Option, Some, None, Result, Ok, get_or, length, map, min, nat_lt, slice_get, take, arith}
+use Rattle.std.proofs.Common.{◌≡◌, ◌∙◌, sym, ap, refl, subst, ℕ, zero, suc, ◌+◌, ◌≤◌, ◌<◌, ◌^◌, ◌==◌, List, [], ◌∷◌, ◌++◌, All, Bool, true, false, cond, Option, Some, None, Result, Ok, get_or, length, map, nat_lt, slice_get, take, arith}
 use Rattle.std.specs.List.{AllZip, flat_map, list_any, position_from}
 use Rattle.std.specs.Option.{unwrap_or}
 use Rattle.std.proofs.lemmas.List.{length-map, length-take, length-take-le, take_all}
@@ -13,24 +13,22 @@ use Rattle.load_model.specs.Faces.{face_or_flaw}
 use Rattle.load_model.specs.LoadList.{Object, Request, Asked, Found, Known, Brought, Loaded, IsEndedFrom, WentTo, count_after, up_to, with_numbers}
 use Rattle.load_model.specs.Loads.{IsLoadList, goes_to}
 use Rattle.load_model.specs.Replays.{Loads}
-use Rattle.load_model.specs.Runs.{AreBelow, IsObjOver, IsRunOf, IsRunOver, face_at, loader_of, need_targets, needs_at, phase_of, reached, start_count, target_in}
+use Rattle.load_model.specs.Runs.{AreBelow, IsObjOver, IsRunOf, IsRunOver, face_at, loader_of, need_targets, needs_at, phase_of, start_count, target_in}
 use Rattle.load_model.specs.World.{World}
 use Rattle.load_model.specs.declared.faces.Face.{Face}
 use Rattle.load_model.specs.declared.limits.TheConstants.{MOST_OBJECTS}
-use Rattle.load_model.specs.declared.refusals.LoadRefusal.{LoadRefusal}
 use Rattle.load_model.specs.declared.runs.Obj.{Obj}
 use Rattle.load_model.specs.declared.runs.Run.{Run}
 use Rattle.load_model.specs.declared.setting.Setting.{Setting}
 use Rattle.load_model.proofs.AskedNeeds.{all_asked, get_map, opened_asked}
 use Rattle.load_model.proofs.Counts.{count-le}
-use Rattle.load_model.proofs.History.{IsHistory, brought_by, count_at, target_count}
+use Rattle.load_model.proofs.History.{IsHistory, brought_by, target_count}
 use Rattle.load_model.proofs.LoadLists.{forget, goes_sound}
 use Rattle.load_model.proofs.Loaders.{small_loader}
 use Rattle.load_model.proofs.NumberLemmas.{length-up_to, number_at}
 use Rattle.load_model.proofs.OneRun.{there}
 use Rattle.moved_runs.proofs.MovedPartLemmas.{end_grown}
 use Rattle.moved_runs.proofs.RunLemmas.{face_is}
-use Rattle.load_model.proofs.SameListLemmas.{there_too}
 use Rattle.build_laws.proofs.LoadedLemmas.{hist, went}
 
 -- ---- lists of numbers

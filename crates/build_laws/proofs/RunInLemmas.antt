@@ -1,18 +1,15 @@
 -- A run of a build: its objects are those of its load list, and files of the world.
-use Rattle.std.proofs.Common.{◌≡◌, ◌∙◌, sym, ap, refl, subst, ℕ, List, All, Option, Some, length, slice_get, arith}
+use Rattle.std.proofs.Common.{◌≡◌, ◌∙◌, sym, ap, ℕ, List, Some, slice_get}
 use Rattle.std.specs.List.{Contains}
 use Rattle.app_config.specs.declared.config.Config.{Config}
-use Rattle.build_plan.specs.Building.{Building, IsBuilding}
+use Rattle.build_plan.specs.Building.{Building}
 use Rattle.build_runs.specs.BuildRuns.{IsFileIn}
 use Rattle.build_runs.specs.declared.programs.Start.{Start}
 use Rattle.build_runs.proofs.FileLemmas.{file_of_object}
 use Rattle.build_plan.specs.Building.{starts_of}
-use Rattle.build_texts.specs.Texts.{replay_in}
 use Rattle.lib_closure.proofs.ContainedLemmas.{at_place}
-use Rattle.load_model.specs.Faces.{face_or_flaw}
 use Rattle.load_model.specs.LoadList.{Loaded, Object}
-use Rattle.load_model.specs.Replays.{IsReplay}
-use Rattle.load_model.specs.Runs.{IsRunOf, IsRunOver}
+use Rattle.load_model.specs.Runs.{IsRunOf}
 use Rattle.load_model.specs.World.{World}
 use Rattle.load_model.specs.declared.faces.Face.{Face}
 use Rattle.load_model.specs.declared.runs.Obj.{Obj}

@@ -1,8 +1,8 @@
 -- The faces of a build are read of files of the world, so their names are texts, and those of the
 -- libraries too.
-use Rattle.std.proofs.Common.{◌≡◌, ◌∙◌, sym, ap, refl, subst, ℕ, ◌<◌, ◌&&◌, ◌==◌, List, All, Bool, true, false, Option, Some, None, Result, Ok, get_or, length, map, slice_get, arith}
+use Rattle.std.proofs.Common.{◌≡◌, ◌∙◌, sym, ap, subst, ℕ, ◌==◌, List, All, true, false, Option, Some, None, Ok, get_or, length, slice_get, arith}
 use Rattle.std.specs.Prelude.{IfSome, IsUtf8, not}
-use Rattle.std.specs.List.{Contains, flat_map, list_all}
+use Rattle.std.specs.List.{Contains}
 use Rattle.std.specs.Str.{is_utf8}
 use Rattle.std.proofs.lemmas.Bool.{and_from, and_parts, ne_eqb, not_from_false}
 use Rattle.std.proofs.lemmas.List.Elements.{All-contains}

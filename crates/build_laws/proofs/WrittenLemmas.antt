@@ -1,10 +1,8 @@
 -- The programs and bundled libraries of a run, each rewritten by its change.
-use Rattle.std.proofs.Common.{◌≡◌, ◌∙◌, sym, ap, refl, subst, ℕ, zero, suc, ◌<◌, ◌++◌, ◌==◌, List, [], ◌∷◌, All, Bool, true, false, cond, Option, Some, None, Result, Ok, Err, bytes_eq, filter, length, map, slice_get, zip, arith}
+use Rattle.std.proofs.Common.{◌≡◌, ◌∙◌, sym, ap, refl, subst, ℕ, zero, suc, ◌++◌, List, [], ◌∷◌, All, true, false, cond, Option, Some, None, Result, Ok, Err, map, slice_get, zip, arith}
 use Rattle.std.specs.List.{Contains, cons_option, filter_map, find}
 use Rattle.std.proofs.lemmas.Bool.{ne_eqb}
 use Rattle.std.proofs.lemmas.List.Elements.{All-contains, Contains-append_left, Contains-append_right}
-use Rattle.std.proofs.lemmas.Option.{slice_get_within}
-use Rattle.answers.specs.First.{first_some}
 use Rattle.app_config.specs.declared.config.Config.{Config}
 use Rattle.appdir_build.specs.Objects.{bytes_in, first_unwritten, lib_objects, new_bytes_of, new_file_of, program_objects, stop_at, stop_in}
 use Rattle.appdir_build.proofs.FirstLemmas.{get_zip}

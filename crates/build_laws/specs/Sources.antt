@@ -1,6 +1,6 @@
 -- What must hold of the world and of the configuration that a build is made of, so that its programs
 -- run the same elsewhere.
-use Rattle.std.specs.Prelude.{ℕ, List, [], ◌≡◌, All, IsUtf8, None}
+use Rattle.std.specs.Prelude.{ℕ, List, All, IsUtf8}
 use Rattle.app_config.specs.declared.config.Config.{Config}
 use Rattle.app_config.specs.declared.config.Program.{Program}
 use Rattle.build_plan.specs.Building.{starts_of}
@@ -25,7 +25,3 @@ pub record IsSource (world : World) (config : Config) : Type 0 where
   pub opens : All (λ (start : Start). All IsNameText start.opens) (starts_of config)
   -- so that the run paths of programs lead to the folder of libraries
   pub tools : All (λ (tool : Program). IsFileName tool.name) config.tools
-  -- so that nothing but bundled libraries lies in this folder
-  pub data_files : config.files ≡ []
-  pub icon : config.icon ≡ None
-  pub desktop : config.desktop ≡ None

@@ -1,6 +1,6 @@
 //! Laws of the names of a build, each the contract of a function that does nothing.
 
-ghost use Rattle.std.specs.Prelude.{◌≡◌, ◌<◌, ℕ, List, length};
+ghost use Rattle.std.specs.Prelude.{◌<◌, ℕ, List, length};
 ghost use Rattle.app_config.specs.declared.config.Config.{Config};
 ghost use Rattle.build_plan.specs.Building.{Building};
 ghost use Rattle.build_runs.specs.declared.programs.Start.{Start};
@@ -8,7 +8,7 @@ ghost use Rattle.load_model.specs.World.{World};
 ghost use Rattle.load_model.specs.declared.runs.Run.{Run};
 ghost use Rattle.moved_runs.specs.Moved.{AreDistinctNames, NeverProgram};
 ghost use Rattle.build_laws.specs.BuiltRuns.{IsRunIn};
-ghost use Rattle.build_laws.specs.Renaming.{is_bundled_in, name_in};
+ghost use Rattle.build_laws.specs.Renaming.{name_in};
 ghost use Rattle.path_text.specs.FileName.{IsFileName};
 
 /// No request of a program of a build goes to the program. The names of the other objects are

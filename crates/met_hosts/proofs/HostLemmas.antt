@@ -1,24 +1,19 @@
 -- A host that meets the record of a build has its libraries, each a file of its own.
-use Rattle.std.proofs.Common.{◌≡◌, ◌∙◌, sym, ap, refl, subst, ℕ, zero, suc, ◌≤◌, ◌<◌, ◌||◌, ◌++◌, List, [], ◌∷◌, All, Bool, true, false, cond, append_assoc, Option, Some, None, is_some, Result, Ok, Err, bytes_eq, get_or, length, map, max, slice_get, take, arith, inl, inr}
-use Rattle.std.specs.Prelude.{◌⊎◌, not}
+use Rattle.std.proofs.Common.{◌≡◌, ◌∙◌, sym, ap, refl, ℕ, zero, suc, ◌<◌, ◌||◌, ◌++◌, List, [], ◌∷◌, All, Bool, true, false, append_assoc, Option, Some, None, is_some, Result, Ok, Err, bytes_eq, length, map, max, slice_get, take, arith, inl, inr}
+use Rattle.std.specs.Prelude.{not}
 use Rattle.std.specs.List.{Contains, find, flat_map}
-use Rattle.std.specs.Option.{option_and_then, option_eq, option_map}
+use Rattle.std.specs.Option.{option_eq, option_map}
 use Rattle.std.proofs.lemmas.Bool.{both_ways, not-false}
 use Rattle.std.proofs.lemmas.List.{append-nil}
 use Rattle.std.proofs.lemmas.List.Elements.{Contains-append_left, Contains-append_right}
-use Rattle.std.proofs.lemmas.Option.{slice_get_within}
 use Rattle.answers.specs.First.{first_some, some_where}
-use Rattle.build_plan.specs.Building.{Building}
-use Rattle.build_texts.specs.Texts.{record_in}
 use Rattle.host_list.specs.Meeting.{HostMeets, are_one_file, damage, differ_at, file_difference, first_difference, first_differing, interp_difference, is_same_file, lib_decision, lib_difference, lib_object, look_difference, object_difference, object_in, own_differences, same_file, soname_difference, version_difference}
-use Rattle.host_list.specs.Recording.{recorded_lib}
 use Rattle.host_list.specs.declared.differences.Difference.{Difference}
 use Rattle.host_list.specs.declared.differences.Difference.TheVariants.{HasRunPath, NeedsDiffer, SameFile, SonameDiffers}
 use Rattle.host_record.specs.declared.records.RecLib.{RecLib}
 use Rattle.host_record.specs.declared.records.Record.{Record}
 use Rattle.lib_closure.specs.Clashes.{beside_earlier}
 use Rattle.met_hosts.specs.Libraries.{HasLibrary}
-use Rattle.lib_closure.specs.declared.splits.HostLib.{HostLib}
 use Rattle.lib_closure.proofs.ContainedLemmas.{at_place, cases, in_map, in_none, none_passes}
 use Rattle.lib_closure.proofs.NumberLemmas.{number_at}
 use Rattle.lib_closure.proofs.PlacedLemmas.{bytes_same}
@@ -27,13 +22,12 @@ use Rattle.load_model.specs.Candidates.{At, decided_by, decision, listed_candida
 use Rattle.load_model.specs.Faces.{face_or_flaw}
 use Rattle.load_model.specs.Joined.{joined}
 use Rattle.load_model.specs.LoadList.{Object, up_to}
-use Rattle.load_model.specs.SameNames.{HasNoRunPath, listed_decision}
+use Rattle.load_model.specs.SameNames.{listed_decision}
 use Rattle.load_model.specs.World.{World, Kind, Absent, Other, Object as IsObject, Damaged as IsDamaged, kind_of}
 use Rattle.load_model.specs.declared.faces.Face.{Face}
 use Rattle.load_model.specs.declared.refusals.LoadRefusal.{LoadRefusal}
 use Rattle.load_model.specs.declared.refusals.LoadRefusal.TheVariants.{Damaged}
 use Rattle.load_model.specs.declared.setting.Setting.{Setting}
-use Rattle.load_model.proofs.AskedNeeds.{map_get}
 use Rattle.load_model.proofs.DecidingLemmas.{first_decides}
 use Rattle.load_model.proofs.ListedLemmas.{listed_cases, mapped_at}
 use Rattle.load_model.proofs.Places.{slice_get_front}

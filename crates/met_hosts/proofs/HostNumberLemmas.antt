@@ -1,6 +1,6 @@
 -- Which objects of a run are host libraries, by their numbers in the split, and what a host has for them.
-use Rattle.std.proofs.Common.{◌≡◌, ◌≢◌, ◌∙◌, sym, ap, refl, subst, ℕ, zero, suc, ◌<◌, ◌==◌, ◌||◌, List, [], ◌∷◌, All, Bool, true, false, Option, Some, None, Ok, arith, bytes_eq, get_or, is_some, length, map, option_map, slice_get, inl, inr}
-use Rattle.std.specs.Prelude.{AllPairs, position}
+use Rattle.std.proofs.Common.{◌≡◌, ◌≢◌, ◌∙◌, sym, ap, refl, subst, ℕ, zero, suc, ◌<◌, ◌==◌, List, [], ◌∷◌, All, Bool, true, false, Option, Some, None, Ok, arith, bytes_eq, get_or, is_some, map, option_map, slice_get, inl, inr}
+use Rattle.std.specs.Prelude.{AllPairs}
 use Rattle.std.specs.List.{Contains, find}
 use Rattle.std.specs.Option.{option_and_then, unwrap_or}
 use Rattle.std.proofs.lemmas.Bool.{cases_lt, eq-eqb, eqb-true, or_cases, or_parts}

@@ -1,7 +1,7 @@
 -- A host library there answers each reference as here, which is recorded.
-use Rattle.std.proofs.Common.{◌≡◌, ◌≢◌, ◌∙◌, sym, ap, refl, subst, ℕ, zero, suc, ◌<◌, ◌==◌, List, [], ◌∷◌, ◌++◌, All, Bool, true, false, cond, Option, Some, None, Ok, arith, drop, length, map, option_map, slice_get, inl, inr}
-use Rattle.std.specs.Prelude.{is_none, not, option_to_list, take_while}
-use Rattle.std.specs.List.{Contains, enumerate_from, filter_map, flat_map}
+use Rattle.std.proofs.Common.{◌≡◌, ◌≢◌, ◌∙◌, sym, ap, refl, subst, ℕ, zero, suc, ◌<◌, ◌==◌, List, [], ◌∷◌, All, Bool, true, false, cond, Option, Some, None, Ok, arith, drop, length, map, option_map, slice_get, inl, inr}
+use Rattle.std.specs.Prelude.{is_none, not, option_to_list}
+use Rattle.std.specs.List.{Contains, enumerate_from, flat_map}
 use Rattle.std.specs.Option.{option_and_then}
 use Rattle.std.proofs.lemmas.Bool.{cases_Bool, eq-eqb, eqb-true, ne_eqb}
 use Rattle.std.proofs.lemmas.List.Elements.{Contains-append_left, Contains-append_right}

@@ -1,6 +1,5 @@
 -- What a host library there asks itself goes to what it reaches by needs here.
-use Rattle.std.proofs.Common.{◌≡◌, ◌≢◌, ◌∙◌, sym, ap, refl, subst, ℕ, zero, suc, ◌<◌, ◌||◌, List, [], ◌∷◌, All, Bool, true, false, cond, Option, Some, None, Ok, arith, bytes_eq, length, map, slice_get, inl, inr}
-use Rattle.std.specs.Prelude.{not}
+use Rattle.std.proofs.Common.{◌≡◌, ◌≢◌, ◌∙◌, sym, ap, refl, subst, ℕ, zero, suc, ◌<◌, List, [], ◌∷◌, All, Bool, true, false, cond, Option, Some, Ok, bytes_eq, length, map, slice_get, inl, inr}
 use Rattle.std.specs.List.{Contains, find, list_any}
 use Rattle.std.proofs.lemmas.Bool.{not-false, or_cases}
 use Rattle.std.proofs.lemmas.List.Elements.{All-contains}
@@ -30,7 +29,7 @@ use Rattle.load_model.proofs.OneRun.{there as stands_at}
 use Rattle.load_model.proofs.Places.{any_place}
 use Rattle.load_model.proofs.SameListLemmas.{there_too}
 use Rattle.load_model.proofs.TwoWorlds.{same_bytes}
-use Rattle.moved_runs.specs.Alike.{HasVersion, IsOwnAsk, IsReached, is_written}
+use Rattle.moved_runs.specs.Alike.{IsOwnAsk, IsReached, is_written}
 use Rattle.build_laws.specs.Renaming.{is_bundled_in, name_in}
 use Rattle.build_laws.proofs.BesideLemmas.{IsHostThere}
 use Rattle.met_hosts.proofs.HostNumberLemmas.{libs_of, unwritten}

@@ -1,8 +1,7 @@
 -- What a record keeps of what is recorded, and what a host says of it that meets it.
-use Rattle.std.proofs.Common.{◌≡◌, ◌∙◌, sym, ap, ap₂, refl, subst, ℕ, List, [], ◌∷◌, ◌++◌, Bool, true, false, cond, fold, ◌&&◌, ◌||◌, Option, Some, None, Result, Ok, length, map, inl, inr}
+use Rattle.std.proofs.Common.{◌≡◌, ◌∙◌, sym, ap, ap₂, refl, subst, ℕ, List, [], ◌∷◌, ◌++◌, Bool, true, false, fold, ◌&&◌, ◌||◌, Option, Some, None, Ok, length, map, inl, inr}
 use Rattle.std.specs.Prelude.{◌⊎◌, not}
 use Rattle.std.specs.BTreeSet.{insert_key}
-use Rattle.std.specs.Cmp.Lexicographic.{slice_cmp}
 use Rattle.std.specs.List.{Contains, flat_map}
 use Rattle.std.specs.Option.{option_and_then, option_cmp}
 use Rattle.std.specs.Ordering.{match_ordering, nat_cmp, ordering_then}
@@ -16,7 +15,7 @@ use Rattle.host_list.specs.Answers.{answer_in_face}
 use Rattle.host_list.specs.Meeting.{HostMeets, answer_difference, asks_of_lib, differences_in_order, first_difference, interp_difference, is_answer, is_reached, lacks_version, lib_difference, lib_object, look_difference, name_of_lib, object_in, own_difference, own_differences, same_file, version_difference}
 use Rattle.host_list.specs.Recording.{distinct_in_order}
 use Rattle.host_list.specs.declared.differences.Difference.{Difference}
-use Rattle.host_list.specs.declared.differences.Difference.TheVariants.{AnswerDiffers, NoVersion, OwnVersion}
+use Rattle.host_list.specs.declared.differences.Difference.TheVariants.{NoVersion}
 use Rattle.host_record.specs.Orders.{answer_cmp, class_number, full_look_cmp, look_cmp, text_cmp, version_cmp}
 use Rattle.host_record.specs.declared.records.Answer.{Answer}
 use Rattle.host_record.specs.declared.records.Answer.TheVariants.{Nothing, Plain, Version}
@@ -32,7 +31,6 @@ use Rattle.load_model.specs.SameNames.{listed_decision}
 use Rattle.load_model.specs.VersionCheck.{has_defined}
 use Rattle.load_model.specs.World.{World}
 use Rattle.load_model.specs.declared.asks.Ask.{Ask}
-use Rattle.load_model.specs.declared.refusals.LoadRefusal.{LoadRefusal}
 use Rattle.load_model.specs.declared.setting.Setting.{Setting}
 use Rattle.moved_runs.proofs.ListLemmas.{all_none}
 

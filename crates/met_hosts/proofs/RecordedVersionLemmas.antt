@@ -1,8 +1,7 @@
 -- A host library there has each version that is asked of it by what is written.
-use Rattle.std.proofs.Common.{◌≡◌, ◌∙◌, sym, ap, refl, subst, ℕ, ◌<◌, List, [], All, Bool, true, false, cond, Option, Some, None, Ok, length, option_map, slice_get}
+use Rattle.std.proofs.Common.{◌≡◌, ◌∙◌, sym, ap, subst, ℕ, ◌<◌, List, [], All, Bool, true, false, cond, Option, Some, None, Ok, length, option_map, slice_get}
 use Rattle.std.specs.Prelude.{is_none}
 use Rattle.std.specs.List.{Contains, filter_map, flat_map}
-use Rattle.std.specs.Option.{option_and_then}
 use Rattle.std.proofs.lemmas.Option.{slice_get_within}
 use Rattle.build_plan.specs.Building.{Building}
 use Rattle.build_texts.specs.Texts.{record_in}
@@ -26,7 +25,7 @@ use Rattle.load_model.proofs.SameListLemmas.{there_too}
 use Rattle.moved_runs.specs.Alike.{HasVersion, is_written}
 use Rattle.build_laws.specs.Renaming.{is_bundled_in}
 use Rattle.build_laws.proofs.BesideLemmas.{IsHostThere}
-use Rattle.met_hosts.proofs.HostNumberLemmas.{IsNumbered, is_numbered, stands_here, unwritten, written_none}
+use Rattle.met_hosts.proofs.HostNumberLemmas.{is_numbered, stands_here, unwritten, written_none}
 use Rattle.met_hosts.proofs.RecordedLemmas.{kept, version_exact, version_there}
 
 pub in_chosen : {X : Type 0} (c : Bool) (xs : List X) (y : X) → c ≡ true → Contains xs y → Contains (cond c xs []) y

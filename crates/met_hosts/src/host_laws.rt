@@ -1,6 +1,6 @@
 //! The law of the libraries of a host, the contract of a function that does nothing.
 
-ghost use Rattle.std.specs.Prelude.{ℕ, List, All};
+ghost use Rattle.std.specs.Prelude.{All};
 ghost use Rattle.std.specs.List.{Contains};
 ghost use Rattle.host_list.specs.Meeting.{HostMeets};
 ghost use Rattle.host_record.specs.declared.records.RecLib.{RecLib};

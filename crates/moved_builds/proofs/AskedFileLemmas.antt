@@ -1,5 +1,5 @@
 -- The files of asks: objects that are there, with their names.
-use Rattle.std.proofs.Common.{◌≡◌, ◌∙◌, sym, ap, refl, subst, ℕ, zero, suc, ◌+◌, ◌<◌, List, [], ◌∷◌, All, Bool, true, false, cond, Option, Some, None, arith, length, map, nat_le, option_map, slice_get, zip, inl, inr}
+use Rattle.std.proofs.Common.{◌≡◌, ◌∙◌, sym, ap, refl, ℕ, ◌+◌, ◌<◌, List, [], Bool, true, false, cond, Option, Some, None, arith, length, nat_le, slice_get, inl, inr}
 use Rattle.std.specs.List.{Contains, enumerate_from, flat_map}
 use Rattle.std.specs.Option.{option_and_then, unwrap_or}
 use Rattle.std.proofs.lemmas.Bool.{cases_lt}
@@ -16,7 +16,7 @@ use Rattle.lib_closure.proofs.PlacedLemmas.{Comes, Occurs, occurs, standing_at}
 use Rattle.lib_closure.proofs.SplitLemmas.{none_mapped}
 use Rattle.load_model.specs.LoadList.{up_to}
 use Rattle.load_model.specs.Runs.{IsRunOver, face_at}
-use Rattle.load_model.specs.VersionCheck.{Unmet, UnmetAsk, asks_in, first_unmet, is_known_by, loaded_by, phase_at, unmet, unmet_at, unmet_by, unmet_of, version_file_of}
+use Rattle.load_model.specs.VersionCheck.{Unmet, asks_in, first_unmet, is_known_by, loaded_by, phase_at, unmet, unmet_at, unmet_by, unmet_of, version_file_of}
 use Rattle.load_model.specs.World.{World}
 use Rattle.load_model.specs.declared.asks.Ask.{Ask}
 use Rattle.load_model.specs.declared.faces.Face.{Face}
@@ -31,7 +31,6 @@ use Rattle.build_laws.specs.Renaming.{name_in}
 use Rattle.build_laws.proofs.FilesLemmas.{right_obj, same_face}
 use Rattle.met_hosts.proofs.HostNumberLemmas.{program_id}
 use Rattle.appdir_build.proofs.FirstLemmas.{get_zip}
-use Rattle.build_laws.proofs.NeedsLemmas.{zip_parts}
 use Rattle.build_laws.proofs.NamesLemmas.{all_objects_there, host_at, lib_at, split_ids}
 use Rattle.build_laws.proofs.RunInLemmas.{run_there}
 

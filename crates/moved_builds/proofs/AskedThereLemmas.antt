@@ -1,13 +1,13 @@
 -- The asks of what is written are those from here, by the names of the objects that they went to.
-use Rattle.std.proofs.Common.{◌≡◌, ◌∙◌, sym, ap, refl, subst, ℕ, ◌<◌, List, [], Bool, true, false, Option, Some, None, arith, find, length, map, slice_get, inl, inr}
+use Rattle.std.proofs.Common.{◌≡◌, ◌∙◌, sym, ap, refl, subst, ℕ, ◌<◌, List, [], true, false, Some, map, slice_get, inl, inr}
 use Rattle.std.specs.List.{Contains}
-use Rattle.std.specs.Option.{option_and_then, unwrap_or}
+use Rattle.std.specs.Option.{unwrap_or}
 use Rattle.std.proofs.lemmas.Option.{get_or_from_slice_get}
 use Rattle.app_config.specs.declared.config.Config.{Config}
 use Rattle.build_plan.specs.Building.{Building}
 use Rattle.build_runs.specs.declared.programs.Start.{Start}
 use Rattle.elf_rewrite.specs.NewFile.{text_at}
-use Rattle.lib_closure.specs.Objects.{Occurrence, has_id, first_places, occurrence_at, own_asks}
+use Rattle.lib_closure.specs.Objects.{Occurrence, occurrence_at, own_asks}
 use Rattle.lib_closure.specs.SplitLaws.{IsLibId}
 use Rattle.lib_closure.proofs.PlacedLemmas.{Comes, FirstOf, Occurs, first_in_all, in_all, occurs, of_all}
 use Rattle.load_model.specs.LoadList.{Loaded, Object}

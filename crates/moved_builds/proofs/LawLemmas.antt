@@ -12,7 +12,6 @@ use Rattle.build_texts.specs.Texts.{record_in, replay_in}
 use Rattle.host_list.specs.Recording.{recorded_lib}
 use Rattle.host_record.specs.Said.{lib_names}
 use Rattle.host_record.specs.declared.records.RecLib.{RecLib}
-use Rattle.lib_closure.specs.declared.splits.HostLib.{HostLib}
 use Rattle.lib_closure.proofs.ContainedLemmas.{at_place, in_map}
 use Rattle.load_model.specs.Candidates.{IsOpenedIn}
 use Rattle.load_model.specs.Faces.{face_or_flaw}
@@ -88,7 +87,7 @@ module _ (world : World) (config : Config) (made : Package) (number : ℕ) (star
     pub package_moved : IsMoved face_or_flaw setting there place (as_items made.files) (name_in b run) (is_bundled_in b run) path loaded those
     package_moved =
         subst (λ fs. IsMoved face_or_flaw setting there place (as_items fs) (name_in b run) (is_bundled_in b run) path loaded those) (sym (files_are world config b made ready.package_is))
-        (moved world config b number start run path run_in ready.written setting there place home_of)
+        (moved world config b number start run path run_in ready.written ready.listed setting there place home_of)
 
     abbrev pub moved_here : Loaded
     moved_here = record { objs = those; log = all_renamed (name_in b run) loaded.log }

@@ -1,18 +1,31 @@
 -- The files of a build, as they lie at a place.
-use Rattle.std.proofs.Common.{◌≡◌, ◌≢◌, ◌∙◌, sym, ap, refl, subst, ℕ, zero, suc, ◌<◌, ◌++◌, List, [], ◌∷◌, All, Bool, true, false, cond, Option, Some, None, Result, Ok, drop, length, map, slice_get, take, zip, arith, inl, inr}
-use Rattle.std.specs.Prelude.{◌⊎◌, IsUtf8, codes}
-use Rattle.std.specs.List.{Contains, flat_map}
-use Rattle.std.proofs.lemmas.List.Elements.{All-contains, Contains-append_cases, Contains-append_left, Contains-append_right}
+use Rattle.std.proofs.Common.{◌≡◌, ◌≢◌, ◌∙◌, sym, ap, refl, subst, ℕ, ◌+◌, ◌-◌, ◌==◌, ◌++◌, List, [], ◌∷◌, All, true, false, append_assoc, get_or, Option, Some, None, Ok, drop, length, map, slice_get, take, zip, arith, inl, inr}
+use Rattle.std.specs.Prelude.{◌⊎◌, codes}
+use Rattle.std.specs.List.{Contains, list_any, slice_range}
+use Rattle.std.proofs.Math.Seq.{drop-append-add, drop-append_seam, take-append_seam}
+use Rattle.std.proofs.lemmas.Bool.{both_ways, ne_eqb, not_from_false}
+use Rattle.std.proofs.lemmas.List.{length-map, map-append}
+use Rattle.std.proofs.lemmas.List.Folds.{list_any_none}
+use Rattle.std.proofs.lemmas.List.Elements.{All-nil, Contains-append_cases, Contains-append_left, Contains-append_right}
 use Rattle.app_config.specs.declared.config.Config.{Config}
-use Rattle.app_config.specs.declared.config.Program.{Program}
-use Rattle.appdir_build.specs.Files.{copied_data, data_files, desktop_files, file_with, files_of, files_of_programs, front_files, icon_files, lib_file, lib_files, main_file, manifest_file, manifest_place, program_file, record_file, record_place, report_file, report_place}
-use Rattle.appdir_build.specs.Objects.{lib_objects, new_bytes_of, program_objects}
+use Rattle.appdir_build.specs.Files.{as_item, copy_at, data_end, data_files, data_start, desktop_files, files_of, files_of_programs, front_files, icon_files, lib_file, lib_files, main_file, manifest_file, program_file, record_file, report_file}
+use Rattle.appdir_build.specs.Outcome.{listing_stop}
+use Rattle.appdir_build.specs.Objects.{lib_objects, program_objects}
 use Rattle.appdir_build.proofs.FirstLemmas.{get_zip}
+use Rattle.appdir_files.specs.Listing.{first_clash_stop, first_lib_stop, is_in_lib, lib_stop, list_stop}
+use Rattle.appdir_files.specs.declared.items.Item.{Item as AppItem}
+use Rattle.appdir_files.specs.declared.stops.ListStop.TheVariants.{TargetInLib}
+use Rattle.answers.specs.First.{first_some}
+use Rattle.name_layout.proofs.LawLemmas.{nowhere}
+use Rattle.path_text.specs.FileName.{IsFileName}
+use Rattle.path_text.specs.Path.{base_of, last_part, named_parts}
+use Rattle.path_text.proofs.PartLemmas.{All-named_parts, NoSlash, NoSlash-parts_of}
 use Rattle.build_plan.specs.Building.{Building}
 use Rattle.build_texts.specs.Places.{lib_place as lib_target, program_places, tool_place}
 use Rattle.elf_rewrite.specs.declared.change.Change.{Change}
 use Rattle.lib_closure.specs.declared.splits.Member.{Member}
-use Rattle.lib_closure.proofs.ContainedLemmas.{at_place, cases, here, in_none, later, of_map, place_of}
+use Rattle.lib_closure.proofs.ContainedLemmas.{at_place, cases, here, in_map, in_none, later, none_gives, of_map, place_of}
+use Rattle.lib_closure.proofs.SplitLemmas.{none_first}
 use Rattle.load_model.specs.Candidates.{At, decision}
 use Rattle.load_model.specs.Faces.{face_or_flaw}
 use Rattle.load_model.specs.Joined.{joined}
@@ -60,6 +73,22 @@ of_first (x ∷ xs) y c =
       | inr none ↦ absurd (in_none y none)
     ]
 
+-- What stands between two lists that are joined to it.
+middle_mapped : {X Y : Type 0} (f : X → Y) (xs ys zs rest : List X) → slice_range (map f (xs ++ (ys ++ (zs ++ rest)))) (length xs + length ys) (length xs + length ys + length zs) ≡ map f zs
+middle_mapped f xs ys zs rest =
+    let lx = length-map xs f in
+    let ly = length-map ys f in
+    let lz = length-map zs f in
+    let whole : map f (xs ++ (ys ++ (zs ++ rest))) ≡ map f xs ++ (map f ys ++ (map f zs ++ map f rest)) =
+    map-append f xs (ys ++ (zs ++ rest)) ∙ ap (λ l. map f xs ++ l) (map-append f ys (zs ++ rest) ∙ ap (λ l. map f ys ++ l) (map-append f zs rest)) in
+    let behind : drop (length xs + length ys) (map f (xs ++ (ys ++ (zs ++ rest)))) ≡ map f zs ++ map f rest =
+    ap (drop (length xs + length ys)) whole
+    ∙ ap (λ n. drop n (map f xs ++ (map f ys ++ (map f zs ++ map f rest)))) (let n : length xs + length ys ≡ length (map f xs) + length (map f ys) = omega (arith, lx, ly) in n)
+    ∙ drop-append-add (map f xs) (map f ys ++ (map f zs ++ map f rest)) (length (map f ys)) ∙ drop-append_seam (map f ys) (map f zs ++ map f rest) in
+    let many : (length xs + length ys + length zs) - (length xs + length ys) ≡ length (map f zs) = omega (arith, lz) in
+    ap (λ n. take n (drop (length xs + length ys) (map f (xs ++ (ys ++ (zs ++ rest)))))) many
+    ∙ ap (take (length (map f zs))) behind ∙ take-append_seam (map f zs) (map f rest)
+
 module _ (world : World) (config : Config) (b : Building) where
   -- The program of a number lies at its place.
   pub program_lies : (number : ℕ) (path : List ℕ) (object : Member × Change) → slice_get (program_places config) number ≡ Some path → slice_get (program_objects b) number ≡ Some object → Contains (files_of world config b) (program_file world (path, object))
@@ -95,65 +124,106 @@ module _ (world : World) (config : Config) (b : Building) where
       let texts : List MemFile = record_file world config b ∷ report_file world config b ∷ manifest_file world config b ∷ main_file world config b in
       Contains-append_left (all ++ rest) texts file (Contains-append_left all rest file there)
 
-  -- Where there is no data, no icon and no desktop file, nothing else lies there but three texts.
-  pub record IsKnownFile (file : MemFile) : Type 0 where
-    pub kind : ((name : List ℕ) × Contains b.layout.libs name × (file.path ≡ lib_target name))
-        ⊎ ((path : List ℕ) × Contains (program_places config) path × (file.path ≡ path))
-        ⊎ ((file.path ≡ record_place) ⊎ ((file.path ≡ report_place) ⊎ (file.path ≡ manifest_place)))
+  -- What lies in the directory: libraries and programs, data, files under the last part of a path, and others of known paths.
+  pub data KnownFile (file : MemFile) : Type 0 where
+    Library : (name : List ℕ) → Contains b.layout.libs name → file.path ≡ lib_target name → KnownFile file
+    Started : (path : List ℕ) → Contains (program_places config) path → file.path ≡ path → KnownFile file
+    Copied : Contains (data_files world config) file → KnownFile file
+    Based : (text : List ℕ) → file.path ≡ base_of text → KnownFile file
+    Fixed : (c : ℕ) → slice_get file.path 0 ≡ Some c → (c ≢ 117) → KnownFile file
+    Shared : slice_get file.path 4 ≡ Some 115 → KnownFile file
 
-  known_program : (file : MemFile) → Contains (files_of_programs world config b) file → IsKnownFile file
+  known_program : (file : MemFile) → Contains (files_of_programs world config b) file → KnownFile file
   unfolding files_of_programs
   known_program file c =
       let m = of_map (program_file world) (zip (program_places config) (program_objects b)) file c in
-      let p : List ℕ = m.from.0 in
-      record { kind = inr (inl (p, of_pair (program_places config) (program_objects b) m.from.0 m.from.1 m.there, ap (λ (f : MemFile). f.path) (sym m.is))) }
+      Started m.from.0 (of_pair (program_places config) (program_objects b) m.from.0 m.from.1 m.there) (ap (λ (f : MemFile). f.path) (sym m.is))
 
-  known_lib : (file : MemFile) → Contains (lib_files world b) file → IsKnownFile file
+  known_lib : (file : MemFile) → Contains (lib_files world b) file → KnownFile file
   unfolding lib_files
   known_lib file c =
       let m = of_map (lib_file world) (zip b.layout.libs (lib_objects b)) file c in
-      let name : List ℕ = m.from.0 in
-      record { kind = inl (name, of_pair b.layout.libs (lib_objects b) m.from.0 m.from.1 m.there, ap (λ (f : MemFile). f.path) (sym m.is)) }
+      Library m.from.0 (of_pair b.layout.libs (lib_objects b) m.from.0 m.from.1 m.there) (ap (λ (f : MemFile). f.path) (sym m.is))
 
-  no_more : (file : MemFile) → config.files ≡ [] → config.icon ≡ None → config.desktop ≡ None → Contains (data_files world config ++ (icon_files world config.icon ++ desktop_files world config.desktop)) file → ⊥
-  no_more file bare icon desktop c =
-      let none : data_files world config ++ (icon_files world config.icon ++ desktop_files world config.desktop) ≡ [] =
-      ap (λ fs. map (copied_data world) fs ++ (icon_files world config.icon ++ desktop_files world config.desktop)) bare
-      ∙ ap (λ i. icon_files world i ++ desktop_files world config.desktop) icon ∙ ap (desktop_files world) desktop in
-      in_none file (subst (λ fs. Contains fs file) none c)
-
-  known_front : (file : MemFile) → config.files ≡ [] → config.icon ≡ None → config.desktop ≡ None → Contains (front_files world config b) file → IsKnownFile file
-  unfolding front_files
-  known_front file bare icon desktop c =
-      let rest : List MemFile = data_files world config ++ (icon_files world config.icon ++ desktop_files world config.desktop) in
-      elim (Contains-append_cases (lib_files world b) (drop 1 (files_of_programs world config b) ++ rest) file c) [
-        | inl lib ↦ known_lib file lib
-        | inr more ↦ elim (Contains-append_cases (drop 1 (files_of_programs world config b)) rest file more) [
-          | inl tool ↦ known_program file (of_later (files_of_programs world config b) file tool)
-          | inr other ↦ absurd (no_more file bare icon desktop other)
+  known_icon : (icon : Option (List ℕ)) (file : MemFile) → Contains (icon_files world icon) file → KnownFile file
+  known_icon None file c = absurd (in_none file c)
+  known_icon (Some icon) file c =
+      elim (cases (copy_at world (base_of icon) icon) file (copy_at world (codes ".DirIcon") icon ∷ []) c) [
+        | inl same ↦ Based icon (ap (λ (f : MemFile). f.path) (sym same))
+        | inr more ↦ elim (cases (copy_at world (codes ".DirIcon") icon) file [] more) [
+          | inl same ↦ Fixed 46 (ap (λ (f : MemFile). slice_get f.path 0) (sym same)) (λ e. absurd (omega (arith, e)))
+          | inr none ↦ absurd (in_none file none)
         ]
       ]
 
-  known_main : (file : MemFile) → Contains (main_file world config b) file → IsKnownFile file
+  known_desktop : (desktop : Option (List ℕ)) (file : MemFile) → Contains (desktop_files world desktop) file → KnownFile file
+  known_desktop None file c = absurd (in_none file c)
+  known_desktop (Some desktop) file c =
+      elim (cases (copy_at world (base_of desktop) desktop) file [] c) [
+        | inl same ↦ Based desktop (ap (λ (f : MemFile). f.path) (sym same))
+        | inr none ↦ absurd (in_none file none)
+      ]
+
+  known_front : (file : MemFile) → Contains (front_files world config b) file → KnownFile file
+  unfolding front_files
+  known_front file c =
+      let marks : List MemFile = icon_files world config.icon ++ desktop_files world config.desktop in
+      elim (Contains-append_cases (lib_files world b) (drop 1 (files_of_programs world config b) ++ (data_files world config ++ marks)) file c) [
+        | inl lib ↦ known_lib file lib
+        | inr more ↦ elim (Contains-append_cases (drop 1 (files_of_programs world config b)) (data_files world config ++ marks) file more) [
+          | inl tool ↦ known_program file (of_later (files_of_programs world config b) file tool)
+          | inr other ↦ elim (Contains-append_cases (data_files world config) marks file other) [
+            | inl copied ↦ Copied copied
+            | inr mark ↦ elim (Contains-append_cases (icon_files world config.icon) (desktop_files world config.desktop) file mark) [
+              | inl icon ↦ known_icon config.icon file icon
+              | inr desktop ↦ known_desktop config.desktop file desktop
+            ]
+          ]
+        ]
+      ]
+
+  known_main : (file : MemFile) → Contains (main_file world config b) file → KnownFile file
   unfolding main_file
   known_main file c = known_program file (of_first (files_of_programs world config b) file c)
 
-  pub known_file : (file : MemFile) → config.files ≡ [] → config.icon ≡ None → config.desktop ≡ None → Contains (files_of world config b) file → IsKnownFile file
+  pub known_file : (file : MemFile) → Contains (files_of world config b) file → KnownFile file
   unfolding files_of
-  known_file file bare icon desktop c =
+  known_file file c =
       elim (Contains-append_cases (front_files world config b) (record_file world config b ∷ report_file world config b ∷ manifest_file world config b ∷ main_file world config b) file c) [
-        | inl front ↦ known_front file bare icon desktop front
+        | inl front ↦ known_front file front
         | inr text ↦ elim (cases (record_file world config b) file (report_file world config b ∷ manifest_file world config b ∷ main_file world config b) text) [
-          | inl same ↦ record { kind = inr (inr (inl (ap (λ (f : MemFile). f.path) (sym same)))) }
+          | inl same ↦ Shared (ap (λ (f : MemFile). slice_get f.path 4) (sym same))
           | inr more ↦ elim (cases (report_file world config b) file (manifest_file world config b ∷ main_file world config b) more) [
-            | inl same ↦ record { kind = inr (inr (inr (inl (ap (λ (f : MemFile). f.path) (sym same))))) }
+            | inl same ↦ Shared (ap (λ (f : MemFile). slice_get f.path 4) (sym same))
             | inr most ↦ elim (cases (manifest_file world config b) file (main_file world config b) most) [
-              | inl same ↦ record { kind = inr (inr (inr (inr (ap (λ (f : MemFile). f.path) (sym same))))) }
+              | inl same ↦ Shared (ap (λ (f : MemFile). slice_get f.path 4) (sym same))
               | inr last ↦ known_main file last
             ]
           ]
         ]
       ]
+
+  -- ---- data lies among no libraries
+
+  data_in_range : slice_range (map as_item (files_of world config b)) (data_start world config b) (data_end world config b) ≡ map as_item (data_files world config)
+  unfolding files_of front_files data_start data_end
+  data_in_range =
+      let programs : List MemFile = drop 1 (files_of_programs world config b) in
+      let marks : List MemFile = icon_files world config.icon ++ desktop_files world config.desktop in
+      let texts : List MemFile = record_file world config b ∷ report_file world config b ∷ manifest_file world config b ∷ main_file world config b in
+      ap (λ fs. slice_range (map as_item fs) (length (lib_files world b) + length programs) (length (lib_files world b) + length programs + length (data_files world config)))
+      (append_assoc (lib_files world b) (programs ++ (data_files world config ++ marks)) texts
+      ∙ ap (λ fs. lib_files world b ++ fs) (append_assoc programs (data_files world config ++ marks) texts)
+      ∙ ap (λ fs. lib_files world b ++ (programs ++ fs)) (append_assoc (data_files world config) marks texts))
+      ∙ middle_mapped as_item (lib_files world b) programs (data_files world config) (marks ++ texts)
+
+  data_outside : (file : MemFile) → listing_stop world config b ≡ None → Contains (data_files world config) file → is_in_lib file.path ≡ false
+  unfolding list_stop first_lib_stop
+  data_outside file listed c =
+      let items : List AppItem = map as_item (files_of world config b) in
+      let both = none_first (first_some (map lib_stop (slice_range items (data_start world config b) (data_end world config b)))) (first_clash_stop [] items ∷ []) listed in
+      let none : first_some (map lib_stop (map as_item (data_files world config))) ≡ None = ap (λ is. first_some (map lib_stop is)) (sym data_in_range) ∙ both.0 in
+      nowhere (is_in_lib file.path) (TargetInLib file.path) (none_gives lib_stop (map as_item (data_files world config)) (as_item file) none (in_map as_item (data_files world config) file c))
 
 -- ---- names in the folder of libraries
 
@@ -173,25 +243,35 @@ program_off_libs config path name c same =
           clash_at (tool_place m.from) (lib_place name) 4 98 108 refl refl (λ e. absurd (omega (arith, e))) (m.is ∙ same)
     ]
 
+name_has_no_slash : (name : List ℕ) → IsFileName name → list_any (λ c. c == 47) name ≡ false
+name_has_no_slash name h = list_any_none (λ c. c == 47) name (λ i d less. ne_eqb (get_or name i d) 47 (h.bytes i d less).0)
+
+in_libs : (name : List ℕ) → IsFileName name → is_in_lib (lib_place name) ≡ true
+in_libs name h = not_from_false (list_any (λ c. c == 47) name) (name_has_no_slash name h)
+
+last_has_no_slash : (parts : List (List ℕ)) → All NoSlash parts → NoSlash (last_part parts)
+last_has_no_slash [] all = All-nil (λ c. c ≢ 47)
+last_has_no_slash (part ∷ parts) all = all (length (part ∷ parts) - 1) [] (omega arith)
+
+base_off_libs : (text name : List ℕ) → base_of text ≡ lib_place name → ⊥
+base_off_libs text name same =
+    let bare : NoSlash (lib_place name) = subst NoSlash same (last_has_no_slash (named_parts text) (All-named_parts NoSlash text (NoSlash-parts_of text))) in
+    bare 3 0 (omega arith) refl
+
 -- What lies in the folder of libraries under a name is a bundled library.
-pub libs_alone : (world : World) (config : Config) (b : Building) (name : List ℕ) → config.files ≡ [] → config.icon ≡ None → config.desktop ≡ None → HasPath (as_items (files_of world config b)) (lib_place name) → Contains b.layout.libs name
-libs_alone world config b name bare icon desktop has =
+alone_by : (world : World) (config : Config) (b : Building) (name : List ℕ) (file : MemFile) → listing_stop world config b ≡ None → IsFileName name → file.path ≡ lib_place name → KnownFile world config b file → Contains b.layout.libs name
+alone_by world config b name file listed named at (Library lib c is) = subst (Contains b.layout.libs) (same_tail (codes "usr/lib/") lib name (sym is ∙ at)) c
+alone_by world config b name file listed named at (Started path c is) = absurd (program_off_libs config path name c (sym is ∙ at))
+alone_by world config b name file listed named at (Copied c) = absurd (both_ways (is_in_lib file.path) (data_outside world config b file listed c) (ap is_in_lib at ∙ in_libs name named))
+alone_by world config b name file listed named at (Based text is) = absurd (base_off_libs text name (sym is ∙ at))
+alone_by world config b name file listed named at (Fixed c is off) = absurd (clash_at file.path (lib_place name) 0 c 117 is refl off at)
+alone_by world config b name file listed named at (Shared is) = absurd (clash_at file.path (lib_place name) 4 115 108 is refl (λ e. absurd (omega (arith, e))) at)
+
+pub libs_alone : (world : World) (config : Config) (b : Building) (name : List ℕ) → listing_stop world config b ≡ None → IsFileName name → HasPath (as_items (files_of world config b)) (lib_place name) → Contains b.layout.libs name
+libs_alone world config b name listed named has =
     let file = get_map as_placed (files_of world config b) has.0 has.1 has.2 in
     let at : file.0.path ≡ lib_place name = ap (λ (i : Item). i.path) (sym file.2) ∙ has.3 in
-    let known = known_file world config b file.0 bare icon desktop (at_place (files_of world config b) has.0 file.0 file.1) in
-    elim known.kind [
-      | inl lib ↦ subst (Contains b.layout.libs) (same_tail (codes "usr/lib/") lib.0 name (sym lib.2 ∙ at)) lib.1
-      | inr more ↦ elim more [
-        | inl program ↦ absurd (program_off_libs config program.0 name program.1 (sym program.2 ∙ at))
-        | inr text ↦ elim text [
-          | inl e ↦ absurd (clash_at record_place (lib_place name) 4 115 108 refl refl (λ d. absurd (omega (arith, d))) (sym e ∙ at))
-          | inr others ↦ elim others [
-            | inl e ↦ absurd (clash_at report_place (lib_place name) 4 115 108 refl refl (λ d. absurd (omega (arith, d))) (sym e ∙ at))
-            | inr e ↦ absurd (clash_at manifest_place (lib_place name) 4 115 108 refl refl (λ d. absurd (omega (arith, d))) (sym e ∙ at))
-          ]
-        ]
-      ]
-    ]
+    alone_by world config b name file.0 listed named at (known_file world config b file.0 (at_place (files_of world config b) has.0 file.0 file.1))
 
 -- ---- what lies at the place
 

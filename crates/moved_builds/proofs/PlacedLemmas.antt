@@ -1,9 +1,9 @@
 -- The objects of a run of a build at a place of another world, each in the place of one from here.
-use Rattle.std.proofs.Common.{◌≡◌, ◌≢◌, ◌∙◌, sym, ap, refl, subst, ℕ, zero, suc, ◌+◌, ◌<◌, ◌||◌, ◌++◌, List, [], ◌∷◌, All, Bool, true, false, cond, Option, Some, None, is_some, Result, Ok, length, map, slice_get, zip, arith, inl, inr}
-use Rattle.std.specs.Prelude.{◌⊎◌, IsUtf8, codes}
-use Rattle.std.specs.List.{Contains, enumerate_from, find, flat_map}
+use Rattle.std.proofs.Common.{◌≡◌, ◌∙◌, sym, ap, refl, subst, ℕ, zero, suc, ◌+◌, ◌<◌, ◌||◌, List, All, Bool, true, false, cond, Option, Some, None, Ok, length, map, slice_get, arith, inl, inr}
+use Rattle.std.specs.Prelude.{◌⊎◌, codes}
+use Rattle.std.specs.List.{Contains, enumerate_from, flat_map}
 use Rattle.std.specs.Option.{option_map, unwrap_or}
-use Rattle.std.proofs.lemmas.Bool.{both_ways, cases_Bool, cases_lt, ne_eqb}
+use Rattle.std.proofs.lemmas.Bool.{ne_eqb}
 use Rattle.std.proofs.lemmas.List.{length-map}
 use Rattle.std.proofs.lemmas.List.Elements.{All-contains}
 use Rattle.std.proofs.lemmas.List.FromFn.{length-enumerate_from}
@@ -11,7 +11,7 @@ use Rattle.answers.specs.First.{some_where}
 use Rattle.app_config.specs.declared.config.Config.{Config}
 use Rattle.app_config.specs.declared.config.Program.{Program}
 use Rattle.appdir_build.specs.Files.{files_of, lib_file, program_file}
-use Rattle.appdir_build.specs.Objects.{first_unwritten, new_bytes_of}
+use Rattle.appdir_build.specs.Objects.{first_unwritten}
 use Rattle.build_plan.specs.Building.{Building}
 use Rattle.build_runs.specs.declared.programs.Start.{Start}
 use Rattle.build_texts.specs.Places.{program_places, tool_place}
@@ -22,27 +22,24 @@ use Rattle.host_list.specs.Recording.{recorded_lib}
 use Rattle.host_record.specs.declared.records.RecLib.{RecLib}
 use Rattle.lib_closure.specs.Objects.{Occurrence}
 use Rattle.lib_closure.specs.Splits.{member_of}
-use Rattle.lib_closure.specs.declared.splits.HostLib.{HostLib}
 use Rattle.lib_closure.specs.declared.splits.Member.{Member}
 use Rattle.lib_closure.proofs.ContainedLemmas.{at_place, in_map}
 use Rattle.lib_closure.proofs.SplitLemmas.{members_stand}
 use Rattle.load_model.specs.Candidates.{At, candidate_in, decision}
 use Rattle.load_model.specs.Faces.{face_or_flaw}
 use Rattle.load_model.specs.Joined.{joined}
-use Rattle.load_model.specs.LoadList.{Asked, Loaded, Object}
+use Rattle.load_model.specs.LoadList.{Loaded, Object}
 use Rattle.load_model.specs.RunPaths.{Folder, items_of}
 use Rattle.load_model.specs.SameNames.{HasNoRunPath, found_instead, listed_decision}
 use Rattle.load_model.specs.World.{World, is_other}
 use Rattle.load_model.specs.declared.faces.Face.{Face}
-use Rattle.load_model.specs.declared.runs.Obj.{Obj}
 use Rattle.load_model.specs.declared.runs.Run.{Run}
 use Rattle.load_model.specs.declared.setting.Setting.{Setting}
 use Rattle.load_model.specs.VersionCheck.{needs_in}
-use Rattle.load_model.proofs.AskedNeeds.{get_map, map_get}
-use Rattle.moved_runs.specs.Moved.{new_names}
-use Rattle.moved_runs.specs.Placed.{HasPath, lib_folder, lib_place}
-use Rattle.moved_runs.specs.Places.{IsHostFile, IsItem, IsMoved, IsWritten, LeadsToLibs}
-use Rattle.moved_runs.proofs.ListLemmas.{numbered_in, numbered_out}
+use Rattle.load_model.proofs.AskedNeeds.{get_map}
+use Rattle.moved_runs.specs.Placed.{lib_folder, lib_place}
+use Rattle.moved_runs.specs.Places.{IsHostFile, IsItem, IsWritten, LeadsToLibs}
+use Rattle.moved_runs.proofs.ListLemmas.{numbered_out}
 use Rattle.moved_runs.proofs.RunPathLemmas.{first_leads, lib_leads, other_leads}
 use Rattle.object_changes.specs.Changing.{change_of_lib, change_of_program, has_bundled_need, has_bundled_root, new_needs, new_soname, run_path_of_libs}
 use Rattle.object_changes.specs.Names.{new_name_of}
@@ -59,14 +56,14 @@ use Rattle.build_laws.specs.BuiltRuns.{IsRunIn}
 use Rattle.moved_builds.specs.Homes.{IsHome}
 use Rattle.build_laws.specs.Renaming.{as_items, is_bundled_in, name_in}
 use Rattle.build_laws.proofs.BesideLemmas.{IsHostThere, IsLibThere, IsProgramThere, IsRewrittenBy, object_for, object_lying, object_listed, objects_for}
-use Rattle.build_laws.proofs.FaceLemmas.{HasTexts, new_right, new_texts}
+use Rattle.build_laws.proofs.FaceLemmas.{new_right, new_texts}
 use Rattle.build_laws.proofs.FilesLemmas.{right_obj, same_face}
 use Rattle.build_laws.proofs.GoingLemmas.{IsFirst, Stands, first_named, host_named, own_named, stands}
 use Rattle.met_hosts.specs.Libraries.{HasLibrary}
 use Rattle.met_hosts.proofs.HostLemmas.{has_file}
-use Rattle.moved_builds.proofs.LyingLemmas.{IsFoundAt, lib_lies, lies_at, program_lies}
+use Rattle.moved_builds.proofs.LyingLemmas.{lib_lies, lies_at, program_lies}
 use Rattle.build_laws.proofs.NamesLemmas.{IsHostOf, IsLibAt, IsLibOf, host_name, host_of, layout_named, lib_of}
-use Rattle.build_laws.proofs.RunInLemmas.{obj_here, run_there}
+use Rattle.build_laws.proofs.RunInLemmas.{run_there}
 use Rattle.build_laws.proofs.WrittenLemmas.{IsLibMade, IsMadeOf, IsProgramMade, lib_made, program_made}
 
 -- ---- the texts of changes

@@ -1,13 +1,14 @@
 -- A build at a place of another world meets the premises of moved programs.
-use Rattle.std.proofs.Common.{◌≡◌, ◌≢◌, ◌∙◌, sym, ap, refl, subst, ℕ, zero, suc, ◌<◌, ◌||◌, List, [], ◌∷◌, All, Bool, true, false, Option, Some, None, length, map, slice_get, arith, inl, inr}
-use Rattle.std.specs.Prelude.{◌⊎◌, IsUtf8}
-use Rattle.std.specs.List.{Contains, list_any}
+use Rattle.std.proofs.Common.{◌≡◌, ◌∙◌, sym, ap, subst, ℕ, zero, suc, ◌<◌, ◌||◌, List, true, false, Some, None, length, slice_get, arith, inl, inr}
+use Rattle.std.specs.Prelude.{IsUtf8}
+use Rattle.std.specs.List.{Contains}
 use Rattle.std.proofs.lemmas.Bool.{both_ways, cases_Bool, cases_lt, or_left, or_right}
 use Rattle.std.proofs.lemmas.List.Elements.{All-contains}
 use Rattle.std.proofs.lemmas.Option.{slice_get_within}
 use Rattle.app_config.specs.declared.config.Config.{Config}
 use Rattle.appdir_build.specs.Files.{files_of}
 use Rattle.appdir_build.specs.Objects.{first_unwritten}
+use Rattle.appdir_build.specs.Outcome.{listing_stop}
 use Rattle.build_plan.specs.Building.{Building}
 use Rattle.build_runs.specs.declared.programs.Start.{Start}
 use Rattle.build_texts.specs.Places.{program_places}
@@ -21,7 +22,6 @@ use Rattle.load_model.specs.Faces.{face_or_flaw}
 use Rattle.load_model.specs.LoadList.{Asked, Loaded, Object}
 use Rattle.load_model.specs.Runs.{IsRunOver, target_in}
 use Rattle.load_model.specs.World.{World}
-use Rattle.load_model.specs.declared.faces.Face.{Face}
 use Rattle.load_model.specs.declared.runs.Obj.{Obj}
 use Rattle.load_model.specs.declared.runs.Run.{Run}
 use Rattle.load_model.specs.declared.setting.Setting.{Setting}
@@ -29,9 +29,8 @@ use Rattle.load_model.proofs.AskedNeeds.{map_get}
 use Rattle.load_model.proofs.OneRun.{there as element}
 use Rattle.moved_runs.specs.Placed.{HasPath, lib_place}
 use Rattle.moved_runs.specs.Places.{IsMoved, LeadsToLibs}
-use Rattle.moved_runs.proofs.PhaseLemmas.{IsNeed, IsOpened}
+use Rattle.moved_runs.proofs.PhaseLemmas.{IsOpened}
 use Rattle.load_model.specs.Loads.{goes_to}
-use Rattle.name_layout.specs.Openings.{lib_with}
 use Rattle.object_changes.specs.Changing.{change_of_lib, change_of_program, has_bundled_need, has_bundled_root, run_path_of_libs}
 use Rattle.object_changes.specs.NamedFiles.{all_files_named}
 use Rattle.object_changes.specs.Names.{goes_to_bundled}
@@ -49,11 +48,11 @@ use Rattle.build_laws.proofs.LoadedLemmas.{asked_as, ids_differ, target_there, w
 use Rattle.moved_builds.proofs.LyingLemmas.{libs_alone, program_off_libs}
 use Rattle.build_laws.proofs.NamesLemmas.{distinct, host_of, kinds_apart, lib_of, name_below, never}
 use Rattle.build_laws.proofs.NeedsLemmas.{beside, bundled_by}
-use Rattle.moved_builds.proofs.PlacedLemmas.{IsHostPlaced, IsLibPlaced, IsProgramPlaced, chosen_so, first_place, host_file, host_placed, host_soname, lib_placed, lib_soname, lib_texts, lib_written, libs_lead, program_leads, program_placed, program_texts, program_written, record_libs, there_count}
+use Rattle.moved_builds.proofs.PlacedLemmas.{IsLibPlaced, IsProgramPlaced, chosen_so, first_place, host_file, host_placed, host_soname, lib_placed, lib_soname, lib_texts, lib_written, libs_lead, program_leads, program_placed, program_texts, program_written, record_libs, there_count}
 use Rattle.build_laws.proofs.RunInLemmas.{obj_here, run_there}
 use Rattle.build_laws.proofs.TableLemmas.{names_are_texts}
 
-module _ (world : World) (config : Config) (b : Building) (number : ℕ) (start : Start) (run : Run) (path : List ℕ) (at : IsRunIn world config b number start run path) (written : first_unwritten world b ≡ None) (setting : Setting) (there : World) (place : List ℕ) (home : IsHome there config b setting place (files_of world config b)) where
+module _ (world : World) (config : Config) (b : Building) (number : ℕ) (start : Start) (run : Run) (path : List ℕ) (at : IsRunIn world config b number start run path) (written : first_unwritten world b ≡ None) (listed : listing_stop world config b ≡ None) (setting : Setting) (there : World) (place : List ℕ) (home : IsHome there config b setting place (files_of world config b)) where
   abbrev loaded : Loaded
   loaded = at.plays.loads.loaded
 
@@ -89,7 +88,7 @@ module _ (world : World) (config : Config) (b : Building) (number : ℕ) (start 
       let o = element loaded.objs j less in
       let x = obj_here world config b number start run path at j o.0 o.1 in
       let w = host_of world config b number start run path at j x.obj some x.stands is in
-      let c = libs_alone world config b (name_in b run j) at.source.data_files at.source.icon at.source.desktop has in
+      let c = libs_alone world config b (name_in b run j) listed (name_below world config b number start run path at j some less) has in
       kinds_apart world config b number start run path at c.0 (name_in b run j) w.host.place w.host.host (place_of b.layout.libs (name_in b run j) c) w.host.host_is w.name
 
   -- ---- files of hosts

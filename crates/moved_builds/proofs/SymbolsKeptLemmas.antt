@@ -1,5 +1,5 @@
 -- What is written has the symbols of the file from here.
-use Rattle.std.proofs.Common.{◌≡◌, ◌∙◌, sym, ap, refl, subst, ℕ, ◌<◌, ◌==◌, ◌||◌, List, Bool, true, false, Some, arith, slice_get, ◌⊎◌, inl, inr}
+use Rattle.std.proofs.Common.{◌≡◌, ◌∙◌, sym, ap, refl, subst, ℕ, ◌<◌, ◌==◌, List, Bool, true, Some, arith, slice_get, ◌⊎◌, inl, inr}
 use Rattle.std.proofs.lemmas.Bool.{cases_lt, eqb-true, or_cases}
 use Rattle.build_plan.specs.Building.{Building}
 use Rattle.elf_rewrite.specs.NewFile.{wanted_of}

@@ -1,26 +1,25 @@
 -- The name that is told first of the file of an ask of a bundled library is that of its target in each run.
-use Rattle.std.proofs.Common.{◌≡◌, ◌∙◌, sym, ap, ap₂, refl, subst, ℕ, ◌<◌, ◌&&◌, List, [], ◌∷◌, Bool, true, false, bytes_eq, cond, find, Option, Some, None, Ok, map, option_map, slice_get, zip}
+use Rattle.std.proofs.Common.{◌≡◌, ◌∙◌, sym, ap, ap₂, refl, subst, ℕ, List, [], ◌∷◌, Bool, true, false, bytes_eq, cond, find, Option, Some, None, Ok, map, option_map, slice_get, zip}
 use Rattle.std.specs.Prelude.{not}
 use Rattle.std.specs.List.{Contains}
 use Rattle.std.specs.Option.{option_and_then}
-use Rattle.std.proofs.lemmas.Bool.{and_from, and_parts, not-false}
+use Rattle.std.proofs.lemmas.Bool.{and_from, and_parts}
 use Rattle.std.proofs.lemmas.Option.{slice_get_within}
-use Rattle.answers.specs.First.{first_some, some_where}
+use Rattle.answers.specs.First.{some_where}
 use Rattle.app_config.specs.declared.config.Config.{Config}
 use Rattle.build_plan.specs.Building.{Building}
 use Rattle.build_runs.specs.declared.programs.Start.{Start}
 use Rattle.lib_closure.specs.Clashes.{file_split, first_file_split, first_need_split, goes_elsewhere, path_of_object, split_at, split_from, split_need}
 use Rattle.lib_closure.specs.Kinds.{is_bundled}
-use Rattle.lib_closure.specs.Objects.{Occurrence, all_objects, files_named, first_place_of, first_places, has_id, in_same_list, occurrence_at, own_asks}
+use Rattle.lib_closure.specs.Objects.{Occurrence, all_objects, files_named, first_place_of, first_places, has_id, in_same_list, own_asks}
 use Rattle.lib_closure.specs.SplitLaws.{IsLibId}
 use Rattle.lib_closure.specs.Splits.{bundled_of, member_of, parts_of_build, split_of}
 use Rattle.lib_closure.specs.declared.splits.Member.{Member}
 use Rattle.lib_closure.specs.declared.splits.Split.{Split}
-use Rattle.lib_closure.specs.declared.stops.ClosureStop.{ClosureStop}
 use Rattle.lib_closure.specs.declared.stops.ClosureStop.TheVariants.{SplitNeed}
-use Rattle.lib_closure.proofs.ContainedLemmas.{Given, Within, at_place, found_in, in_filter_map, in_flat_map, none_gives, none_passes, of_filter, of_filter_map, of_flat_map, of_map, place_of}
-use Rattle.lib_closure.proofs.PlacedLemmas.{Comes, FirstOf, Occurs, bytes_same, first_in_all, in_all, occurs, of_all, placed}
-use Rattle.lib_closure.proofs.SplitLemmas.{IsUnclashed, bundled_alike, none_first, unclashed}
+use Rattle.lib_closure.proofs.ContainedLemmas.{at_place, found_in, in_filter_map, in_flat_map, none_gives, none_passes, of_filter, of_filter_map, of_flat_map, of_map, place_of}
+use Rattle.lib_closure.proofs.PlacedLemmas.{Comes, FirstOf, Occurs, bytes_same, first_in_all, occurs, of_all, placed}
+use Rattle.lib_closure.proofs.SplitLemmas.{bundled_alike, none_first, unclashed}
 use Rattle.load_model.specs.VersionCheck.{version_file_of}
 use Rattle.load_model.specs.World.{World}
 use Rattle.load_model.specs.declared.asks.Ask.{Ask}
@@ -28,7 +27,7 @@ use Rattle.load_model.specs.declared.faces.Face.{Face}
 use Rattle.load_model.specs.declared.runs.Obj.{Obj}
 use Rattle.load_model.specs.declared.runs.Run.{Run}
 use Rattle.load_model.proofs.TwoWorlds.{same_bytes}
-use Rattle.object_changes.specs.NamedFiles.{NamedFile, all_files_named, asked_name, files_named_at, named_file, tells, told_name}
+use Rattle.object_changes.specs.NamedFiles.{NamedFile, all_files_named, files_named_at, named_file, tells, told_name}
 use Rattle.object_changes.specs.Names.{name_beside, new_name_of}
 use Rattle.text_sets.proofs.FoundLemmas.{find_passes}
 use Rattle.build_laws.specs.BuiltRuns.{IsRunIn}

@@ -1,7 +1,7 @@
 //! Laws of the programs of a build at a place of another world, each the contract of a function that
 //! does nothing.
 
-ghost use Rattle.std.specs.Prelude.{◌≡◌, ◌<◌, ℕ, List, None, Some, false, slice_get};
+ghost use Rattle.std.specs.Prelude.{◌≡◌, ◌<◌, ℕ, List, Some, false, slice_get};
 ghost use Rattle.std.specs.List.{Contains};
 ghost use Rattle.app_config.specs.declared.config.Config.{Config};
 ghost use Rattle.appdir_build.specs.Outcome.{IsPackage, Package};
