@@ -2,6 +2,7 @@ pub mod AlikeLemmas
 pub mod AskMadeLemmas
 pub mod AskedFileLemmas
 pub mod AskedThereLemmas
+pub mod InterpreterLemmas
 pub mod LawLemmas
 pub mod LyingLemmas
 pub mod PlacedLemmas

@@ -1,7 +1,7 @@
 //! Laws of the programs of a build at a place of another world, each the contract of a function that
 //! does nothing.
 
-ghost use Rattle.std.specs.Prelude.{◌≡◌, ◌<◌, ℕ, List, Some, false, slice_get};
+ghost use Rattle.std.specs.Prelude.{◌≡◌, ◌<◌, ℕ, List, Some, false, slice_get, true};
 ghost use Rattle.std.specs.List.{Contains};
 ghost use Rattle.app_config.specs.declared.config.Config.{Config};
 ghost use Rattle.appdir_build.specs.Outcome.{IsPackage, Package};
@@ -13,7 +13,11 @@ ghost use Rattle.load_model.specs.Faces.{face_or_flaw};
 ghost use Rattle.load_model.specs.Joined.{joined};
 ghost use Rattle.load_model.specs.LoadList.{Loaded, Object};
 ghost use Rattle.load_model.specs.Loads.{IsLoadList};
-ghost use Rattle.load_model.specs.World.{World};
+ghost use Rattle.host_list.specs.Recording.{program_interp};
+ghost use Rattle.listed_runs.specs.Fitting.{is_on_list};
+ghost use Rattle.load_model.specs.World.{World, file_at};
+ghost use Rattle.load_model.specs.declared.world.WorldFile.{WorldFile};
+ghost use Rattle.path_text.specs.Path.{base_of};
 ghost use Rattle.load_model.specs.declared.runs.Obj.{Obj};
 ghost use Rattle.load_model.specs.declared.runs.Run.{Run};
 ghost use Rattle.load_model.specs.declared.setting.Setting.{Setting};
@@ -71,4 +75,17 @@ pub fn built_programs_load_there()
         → 0 < j → slice_get run.objs j ≡ Some x → is_bundled_in ready.building run j ≡ false
         → Contains (lib_names (record_in ready.building).libs)
         (name_in ready.building run j) }
+{}
+
+/// The interpreter of each program of a build has a last part on the host list, and is a file there.
+pub fn built_interpreters_are_there()
+    ensures { (world there : World) (config : Config) (made : Package) (setting : Setting)
+        (place : List ℕ) (number : ℕ) (start : Start) (run : Run) (path : List ℕ)
+        (ready : IsPackage world config made)
+        → IsSource world config
+        → IsHome there config ready.building setting place made.files
+        → IsProgramOf config ready.building number start run path
+        → (interp : List ℕ) × (program_interp ready.building.faces run ≡ Some interp)
+        × (is_on_list config.names (base_of interp) ≡ true)
+        × (file : WorldFile) × (file_at there interp ≡ Some file) }
 {}
