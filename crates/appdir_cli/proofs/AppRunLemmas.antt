@@ -57,7 +57,7 @@ module _ (world : World) where
   front_one (item ∷ items) (suc count) (f ∷ fs) (m ∷ ms) h g =
       ap (λ x. x ∷ fs) (file_one item f m h.0 g.0) ∙ ap (λ l. m ∷ l) (front_one items count fs ms h.1 g.1)
 
-  all_one : (items : List Item) (fs ms : List MemFile) → AreFilesOf (Some world) items fs → AreFilesOf (Some world) items ms → fs ≡ ms
+  pub all_one : (items : List Item) (fs ms : List MemFile) → AreFilesOf (Some world) items fs → AreFilesOf (Some world) items ms → fs ≡ ms
   all_one items fs ms h g =
       let whole : take (length items) items ≡ items = take_all (length items) items (omega arith) in
       let count : length ms ≡ length items = AllZip-long (IsFileOf (Some world)) items ms g in

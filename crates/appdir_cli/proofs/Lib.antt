@@ -1,7 +1,9 @@
 pub mod AppRunLemmas
+pub mod CommandLemmas
 pub mod CompletenessLemmas
 pub mod EndingLemmas
 pub mod Lists
 pub mod PackingLemmas
+pub mod SameEverywhereLemmas
 pub mod ShowingLemmas
 pub mod TwoWorldsLemmas

@@ -1,11 +1,12 @@
-//! The top call. Definitions: `specs/Endings.antt`, `specs/ComesTo.antt`, `specs/AppRun.antt` and
-//! `specs/TwoWorlds.antt`.
+//! The top call. Definitions: `specs/Endings.antt`, `specs/ComesTo.antt`, `specs/AppRun.antt`,
+//! `specs/SameEverywhere.antt` and `specs/TwoWorlds.antt`.
 
 ghost use Rattle.std.specs.Prelude.{◌≡◌, ◌≤◌};
 ghost use Rattle.answers.specs.Told.{WhereTold};
 ghost use Rattle.ports.specs.View.{OnlyReads};
 ghost use Rattle.appdir_cli.specs.AppRun.{IsAppRunLast};
 ghost use Rattle.appdir_cli.specs.Endings.{Ends, IsComplete, outside};
+ghost use Rattle.appdir_cli.specs.SameEverywhere.{RunsSameEverywhere};
 ghost use Rattle.appdir_cli.specs.TwoWorlds.{RunsAlike};
 ghost use Rattle.appdir_cli.specs.Words.{command_of, texts};
 
@@ -32,6 +33,9 @@ pub fn appdir_main<T: Tree, O: OutDir, S: Sink>(
         (outside (T.seen tree.old) (O.seen out.old) (S.seen sink.old))
         (outside (T.seen tree.new) (O.seen out.new) (S.seen sink.new)) result }
     ensures app_run_last { IsAppRunLast (command_of (texts words.now))
+        (outside (T.seen tree.old) (O.seen out.old) (S.seen sink.old))
+        (outside (T.seen tree.new) (O.seen out.new) (S.seen sink.new)) result }
+    ensures same_everywhere { RunsSameEverywhere (command_of (texts words.now))
         (outside (T.seen tree.old) (O.seen out.old) (S.seen sink.old))
         (outside (T.seen tree.new) (O.seen out.new) (S.seen sink.new)) result }
     ensures two_worlds { WhereTold (T.seen tree.old).told

@@ -1,5 +1,5 @@
 -- The laws of builds at a place, from what their outcome says.
-use Rattle.std.proofs.Common.{◌≡◌, ◌∙◌, sym, ap, refl, subst, ℕ, ◌<◌, List, false, Some, map, slice_get}
+use Rattle.std.proofs.Common.{◌≡◌, ◌∙◌, sym, ap, refl, subst, ℕ, ◌<◌, List, false, Some, length, map, slice_get}
 use Rattle.std.specs.List.{Contains}
 use Rattle.app_config.specs.declared.config.Config.{Config}
 use Rattle.appdir_build.specs.Files.{files_of}
@@ -100,11 +100,12 @@ module _ (world : World) (config : Config) (made : Package) (number : ℕ) (star
         subst (λ ns. IsLoadList face_or_flaw setting there (joined place path) ns moved_here moved_ends) (opens_stay world config b number start run path run_in)
         (moved_list face_or_flaw config.setting setting world there start.path start.opens loaded run_in.plays.loads.ends run_in.plays.loads.list place (as_items made.files) (name_in b run) (is_bundled_in b run) path those package_moved)
 
-    pub opens_only : (other : Loaded) (ends : List Loaded) (opened : List ℕ) → IsLoadList face_or_flaw setting there (joined place path) start.opens other ends → IsOpenedIn face_or_flaw setting there (joined place path) other opened → MayBeOpened face_or_flaw setting there place (name_in b run) (is_bundled_in b run) path opened
+    pub opens_only : (other : Loaded) (ends : List Loaded) (opened : List ℕ) → IsLoadList face_or_flaw setting there (joined place path) start.opens other ends → IsOpenedIn face_or_flaw setting there (joined place path) other opened → MayBeOpened face_or_flaw setting there place (name_in b run) (is_bundled_in b run) (length run.objs) path opened
     opens_only other ends opened list h =
         let same = (at_most_one face_or_flaw setting there (joined place path) start.opens other moved_here ends moved_ends list list_there).0 in
-        moved_opens face_or_flaw config.setting setting world there start.path start.opens loaded run_in.plays.loads.ends place (as_items made.files) (name_in b run) (is_bundled_in b run) path those run_in.plays.loads.list package_moved opened
-        (subst (λ l. IsOpenedIn face_or_flaw setting there (joined place path) l opened) same h)
+        subst (λ n. MayBeOpened face_or_flaw setting there place (name_in b run) (is_bundled_in b run) n path opened) (sym run_in.plays.loads.run_is.count)
+        (moved_opens face_or_flaw config.setting setting world there start.path start.opens loaded run_in.plays.loads.ends place (as_items made.files) (name_in b run) (is_bundled_in b run) path those run_in.plays.loads.list package_moved opened
+        (subst (λ l. IsOpenedIn face_or_flaw setting there (joined place path) l opened) same h))
 
     -- Each program runs the same there.
     pub same_there : RunsSame face_or_flaw setting there place (name_in b run) (is_bundled_in b run) path start.opens b.faces (replay_in b.faces run)

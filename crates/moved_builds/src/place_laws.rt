@@ -1,7 +1,7 @@
 //! Laws of the programs of a build at a place of another world, each the contract of a function that
 //! does nothing.
 
-ghost use Rattle.std.specs.Prelude.{◌≡◌, ◌<◌, ℕ, List, Some, false, slice_get, true};
+ghost use Rattle.std.specs.Prelude.{◌≡◌, ◌<◌, ℕ, List, Some, false, length, slice_get, true};
 ghost use Rattle.std.specs.List.{Contains};
 ghost use Rattle.app_config.specs.declared.config.Config.{Config};
 ghost use Rattle.appdir_build.specs.Outcome.{IsPackage, Package};
@@ -66,7 +66,7 @@ pub fn built_programs_load_there()
         → IsLoadList face_or_flaw setting there (joined place path) start.opens loaded ends
         → IsOpenedIn face_or_flaw setting there (joined place path) loaded opened
         → MayBeOpened face_or_flaw setting there place (name_in ready.building run)
-        (is_bundled_in ready.building run) path opened }
+        (is_bundled_in ready.building run) (length run.objs) path opened }
     ensures recorded { (world : World) (config : Config) (made : Package) (number : ℕ)
         (start : Start) (run : Run) (path : List ℕ) (j : ℕ) (x : Obj)
         (ready : IsPackage world config made)

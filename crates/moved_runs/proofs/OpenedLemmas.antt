@@ -85,7 +85,7 @@ module _ (read : List ℕ → Result Face Flaw) (setting : Setting) (world : Wor
   below j q g b = let size = moved.count in omega arith
 
   -- what the search for a new name opens
-  search_opens : (c : ℕ) (m : ℕ) (a : Asked) (log : List Asked) (path : List ℕ) (q : Object) → slice_get run.log m ≡ Some a → a.request.by < c → a.request.by < length objs_there → slice_get objs_there a.target ≡ Some q → a.target < length objs_there → 0 < a.target → IsUpToDeciding read setting world (candidates setting (take c objs_there) (loader_in log) (renamed name_of a).request) path → IsLibPath read setting world place name_of is_bundled path ⊎ IsHostPath read setting world place name_of is_bundled path
+  search_opens : (c : ℕ) (m : ℕ) (a : Asked) (log : List Asked) (path : List ℕ) (q : Object) → slice_get run.log m ≡ Some a → a.request.by < c → a.request.by < length objs_there → slice_get objs_there a.target ≡ Some q → a.target < length objs_there → 0 < a.target → IsUpToDeciding read setting world (candidates setting (take c objs_there) (loader_in log) (renamed name_of a).request) path → IsLibPath read setting world place name_of is_bundled (length run.objs) path ⊎ IsHostPath read setting world place name_of is_bundled (length run.objs) path
   search_opens c m a log path q g by within gq inside some w =
       let x = there objs_there a.request.by within in
       let asker : slice_get (take c objs_there) a.request.by ≡ Some x.0 = slice_get_front c objs_there a.request.by x.0 by x.1 in
@@ -108,6 +108,7 @@ module _ (read : List ℕ → Result Face Flaw) (setting : Setting) (world : Wor
                   inl (record {
                     number = a.target;
                     some = some;
+                    below = bt;
                     bundled = b.1;
                     path_is = only_found read setting world (joined place (lib_place (name_of a.target))) path (listed_candidates setting (name_of a.target)) kind.0 q.face kind.1 (subst (λ (ds : List Candidate). IsUpToDeciding read setting world ds path) cs w);
                   })
@@ -126,11 +127,11 @@ module _ (read : List ℕ → Result Face Flaw) (setting : Setting) (world : Wor
                     | inr e ↦ subst (λ (ds : List Candidate). IsUpToDeciding read setting world (ds ++ listed_candidates setting (name_of a.target)) path) e led
                   ]
             ] in
-            inr (record { number = a.target; some = some; of_host = h.not_bundled; listed = listed_up_to read setting world (name_of a.target) path moved.dirs_normal file_name listed })
+            inr (record { number = a.target; some = some; below = bt; of_host = h.not_bundled; listed = listed_up_to read setting world (name_of a.target) path moved.dirs_normal file_name listed })
       ]
 
   module _ {X : Type 0} (answer : List Object → List Asked → Request → Result Found X) (hist : IsHistory answer run.objs run.log) where
-    pub opens_only : (path : List ℕ) → IsOpenedIn read setting world (joined place program) (record { objs = objs_there; log = all_renamed name_of run.log }) path → MayBeOpened read setting world place name_of is_bundled program path
+    pub opens_only : (path : List ℕ) → IsOpenedIn read setting world (joined place program) (record { objs = objs_there; log = all_renamed name_of run.log }) path → MayBeOpened read setting world place name_of is_bundled (length run.objs) program path
     opens_only path opened =
         elim (run_searched read setting world (joined place program) (record { objs = objs_there; log = all_renamed name_of run.log }) path opened) [
           | inl e ↦ inl e
@@ -147,7 +148,7 @@ module _ (read : List ℕ → Result Face Flaw) (setting : Setting) (world : Wor
               inr (search_opens (count_after (take s.number (all_renamed name_of run.log))) s.number v.0 (take s.number (all_renamed name_of run.log)) path q.0 v.1 (omega arith) (omega arith) q.1 (omega arith) (moved.never s.number v.0 v.1) reached)
         ]
 
-pub moved_opens : (read : List ℕ → Result Face Flaw) (setting setting_there : Setting) (here there_world : World) (path : List ℕ) (opens : List (List ℕ)) (loaded : Loaded) (ends : List Loaded) (place : List ℕ) (items : List Item) (name_of : ℕ → List ℕ) (is_bundled : ℕ → Bool) (program : List ℕ) (objs_there : List Object) → IsLoadList read setting here path opens loaded ends → IsMoved read setting_there there_world place items name_of is_bundled program loaded objs_there → (p : List ℕ) → IsOpenedIn read setting_there there_world (joined place program) (record { objs = objs_there; log = all_renamed name_of loaded.log }) p → MayBeOpened read setting_there there_world place name_of is_bundled program p
+pub moved_opens : (read : List ℕ → Result Face Flaw) (setting setting_there : Setting) (here there_world : World) (path : List ℕ) (opens : List (List ℕ)) (loaded : Loaded) (ends : List Loaded) (place : List ℕ) (items : List Item) (name_of : ℕ → List ℕ) (is_bundled : ℕ → Bool) (program : List ℕ) (objs_there : List Object) → IsLoadList read setting here path opens loaded ends → IsMoved read setting_there there_world place items name_of is_bundled program loaded objs_there → (p : List ℕ) → IsOpenedIn read setting_there there_world (joined place program) (record { objs = objs_there; log = all_renamed name_of loaded.log }) p → MayBeOpened read setting_there there_world place name_of is_bundled (length loaded.objs) program p
 moved_opens read setting setting_there here there_world path opens loaded ends place items name_of is_bundled program objs_there list moved p opened =
     opens_only read setting_there there_world place items name_of is_bundled program loaded objs_there moved (goes_to read setting here path)
     (history read setting here path list.program opens loaded (forget read setting here path list.program opens loaded ends list.run)) p opened

@@ -1,5 +1,6 @@
 -- The paths that a moved program may open at a place: its own, those of bundled libraries in their
--- folder, and for the names of host libraries those in listed directories.
+-- folder, and for the names of host libraries those in listed directories. The objects of its run have
+-- the numbers below `count`.
 use Rattle.std.specs.Prelude.{ℕ, List, ◌≡◌, ◌<◌, ◌⊎◌, Bool, true, false, Result}
 use Rattle.byte_view.specs.declared.flaws.Flaw.{Flaw}
 use Rattle.load_model.specs.Joined.{joined}
@@ -10,11 +11,12 @@ use Rattle.load_model.specs.declared.setting.Setting.{Setting}
 use Rattle.moved_runs.specs.Placed.{lib_place}
 
 module _ (read : List ℕ → Result Face Flaw) (setting : Setting) (world : World) (place : List ℕ)
-    (name_of : ℕ → List ℕ) (is_bundled : ℕ → Bool) where
+    (name_of : ℕ → List ℕ) (is_bundled : ℕ → Bool) (count : ℕ) where
   -- A bundled library in the folder of libraries.
   pub record IsLibPath (path : List ℕ) : Type 0 where
     pub number : ℕ
     pub some : 0 < number
+    pub below : number < count
     pub bundled : is_bundled number ≡ true
     pub path_is : path ≡ joined place (lib_place (name_of number))
 
@@ -22,6 +24,7 @@ module _ (read : List ℕ → Result Face Flaw) (setting : Setting) (world : Wor
   pub record IsHostPath (path : List ℕ) : Type 0 where
     pub number : ℕ
     pub some : 0 < number
+    pub below : number < count
     pub of_host : is_bundled number ≡ false
     pub listed : IsListedUpTo read setting world (name_of number) path
 

@@ -1,6 +1,6 @@
 //! Laws of a place in another world, each the contract of a function that does nothing.
 
-ghost use Rattle.std.specs.Prelude.{◌≡◌, ◌⊎◌, ◌++◌, ℕ, Bool, List, Result, codes, map};
+ghost use Rattle.std.specs.Prelude.{◌≡◌, ◌⊎◌, ◌++◌, ℕ, Bool, List, Result, codes, length, map};
 ghost use Rattle.std.specs.List.{flat_map};
 ghost use Rattle.byte_view.specs.declared.flaws.Flaw.{Flaw};
 ghost use Rattle.path_text.specs.FileName.{IsFileName};
@@ -65,7 +65,8 @@ pub fn moved_program_opens_only()
         → (opened : List ℕ)
         → IsOpenedIn read setting_there there (joined place program)
         (record { objs = objs_there; log = all_renamed name_of loaded.log }) opened
-        → MayBeOpened read setting_there there place name_of is_bundled program opened }
+        → MayBeOpened read setting_there there place name_of is_bundled (length loaded.objs) program
+        opened }
 {}
 
 /// The run paths of the first program, which lies at the place, of others, which lie in usr/bin, and
