@@ -1,12 +1,12 @@
 -- The names of a command are words of the call, and file names.
-use Rattle.std.proofs.Common.{ℕ, List, [], ◌∷◌, Bool, true, false, cond, Option, Some, None, ◌≡◌, option_map, refl, ◌∙◌, sym, ap, subst, nat_lt}
+use Rattle.std.proofs.Common.{ℕ, List, [], ◌∷◌, Bool, true, false, cond, Option, Some, None, ◌≡◌, option_map, refl, ◌∙◌, ap, subst, nat_lt}
 use Rattle.std.specs.Prelude.{All, IsUtf8, string_bytes, String}
 use Rattle.std.specs.Global.{Global}
 use Rattle.std.specs.List.{list_all, list_any}
 use Rattle.std.specs.Str.{bytes_eq}
 use Rattle.std.specs.Prelude.{codes}
 use Rattle.std.proofs.lemmas.Bool.{and_parts}
-use Rattle.std.proofs.lemmas.List.Elements.{All-nil, All-cons, All-head, All-tail}
+use Rattle.std.proofs.lemmas.List.Elements.{All-nil, All-cons, All-tail}
 use Rattle.std.proofs.lemmas.Str.{IsUtf8-from_is_utf8, IsUtf8-string_bytes}
 use Rattle.load_model.proofs.Texts.{text}
 use Rattle.path_text.specs.FileName.{IsFileName, is_file_name_text}

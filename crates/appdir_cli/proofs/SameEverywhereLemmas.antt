@@ -1,41 +1,35 @@
 -- The packed program runs the same everywhere, from how a call ends and from the laws of builds.
-use Rattle.std.proofs.Common.{ℕ, zero, suc, ◌<◌, arith, List, [], ◌∷◌, ◌++◌, ◌≡◌, ◌∙◌, inl, inr, refl, ap, sym, subst, Bool, true, false, Option, Some, None, Ok, codes, length, map, slice_get}
+use Rattle.std.proofs.Common.{ℕ, arith, List, [], ◌∷◌, ◌≡◌, ◌∙◌, inl, inr, refl, ap, sym, subst, Option, Some, Ok, codes, length, slice_get}
 use Rattle.std.specs.Prelude.{All, IsUtf8, String, ◌⊎◌, option_map}
 use Rattle.std.specs.Global.{Global}
-use Rattle.std.specs.List.{AllZip, Contains}
+use Rattle.std.specs.List.{AllZip}
 use Rattle.std.proofs.lemmas.List.Elements.{All-nil, All-cons, All-head, All-tail}
 use Rattle.answers.specs.Told.{WhereTold}
 use Rattle.app_config.specs.Names.{names_or_default}
 use Rattle.app_config.specs.declared.config.Config.{Config}
 use Rattle.app_config.specs.declared.config.Program.{Program}
-use Rattle.appdir_build.specs.Objects.{lib_objects, program_objects}
 use Rattle.appdir_build.specs.Outcome.{IsPackage, Package}
 use Rattle.build_laws.specs.BuiltRuns.{IsRunIn}
 use Rattle.build_laws.specs.Renaming.{IsProgramOf, as_items, as_placed, is_bundled_in, name_in}
 use Rattle.build_laws.specs.Sources.{IsNameText, IsSource}
 use Rattle.build_laws.proofs.ImageLemmas.{memory_kept}
-use Rattle.build_plan.specs.Building.{Building, start_of, starts_of}
+use Rattle.build_plan.specs.Building.{Building, start_of}
 use Rattle.build_runs.specs.BuildRuns.{IsRunFor}
 use Rattle.build_runs.specs.declared.programs.Start.{Start}
 use Rattle.build_texts.specs.Places.{program_places}
-use Rattle.build_texts.specs.Texts.{record_in}
 use Rattle.deliveries.specs.Delivery.{IsWhole, filled}
 use Rattle.deliveries.specs.declared.answer.Answer.{Answer}
 use Rattle.deliveries.specs.declared.answer.Answer.TheVariants.{Packs, Says}
 use Rattle.deliveries.specs.declared.answer.Whole.{Whole}
 use Rattle.deliveries.specs.declared.status.Status.{Status}
 use Rattle.deliveries.specs.declared.status.Status.TheVariants.{Done}
-use Rattle.host_record.specs.Said.{lib_names}
-use Rattle.lib_closure.specs.declared.splits.Member.{Member}
 use Rattle.lib_closure.proofs.ContainedLemmas.{at_place}
-use Rattle.load_model.specs.Candidates.{IsOpenedIn}
 use Rattle.load_model.specs.Escaping.{AreBytes}
 use Rattle.load_model.specs.Faces.{face_or_flaw}
 use Rattle.load_model.specs.Joined.{joined}
-use Rattle.load_model.specs.LoadList.{Loaded, Object}
+use Rattle.load_model.specs.LoadList.{Object}
 use Rattle.load_model.specs.Runs.{IsRunOver}
 use Rattle.load_model.specs.World.{IsWorld, World}
-use Rattle.load_model.specs.declared.runs.Obj.{Obj}
 use Rattle.load_model.specs.declared.runs.Run.{Run}
 use Rattle.load_model.specs.declared.setting.Setting.{Setting}
 use Rattle.load_model.specs.declared.world.WorldFile.{WorldFile}
@@ -43,7 +37,7 @@ use Rattle.load_model.proofs.AskedNeeds.{get_map}
 use Rattle.load_model.proofs.OneRun.{there as stands_there}
 use Rattle.moved_builds.specs.Homes.{IsHome}
 use Rattle.moved_builds.proofs.LawLemmas.{list_there, moved_ends, moved_here, opens_only, package_moved, recorded, run_in, same_there}
-use Rattle.moved_runs.specs.OpenedThere.{IsHostPath, IsLibPath, MayBeOpened}
+use Rattle.moved_runs.specs.OpenedThere.{MayBeOpened}
 use Rattle.moved_runs.specs.Placed.{Item, lib_place}
 use Rattle.moved_runs.specs.Places.{IsItem}
 use Rattle.object_changes.proofs.StandingLemmas.{all_at}

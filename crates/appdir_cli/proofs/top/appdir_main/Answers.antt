@@ -16,7 +16,7 @@ returns-clause-app_run_last g c =
 
 pub returns-clause-same_everywhere : goal.returns-clause-same_everywhere
 returns-clause-same_everywhere g c =
-    same_everywhere c.args.words.now (outside (g.T.Tree.seen c.args.tree.now) (g.O.OutDir.seen c.args.out.now) (g.S.Sink.seen c.args.sink.now)) (outside (g.T.Tree.seen c.attend.new.tree) (g.O.OutDir.seen c.attend.new.out) (g.S.Sink.seen c.attend.new.sink)) c.attend.result (g.T.Tree.tells_world c.args.tree.now) c.attend.ensures.ending
+    same_everywhere c.args.words.now (outside (g.T.Tree.seen c.args.tree.now) (g.O.OutDir.seen c.args.out.now) (g.S.Sink.seen c.args.sink.now)) (outside (g.T.Tree.seen c.attend.new.tree) (g.O.OutDir.seen c.attend.new.out) (g.S.Sink.seen c.attend.new.sink)) c.attend.result (g.met.T.Tree.tells_world c.args.tree.now) c.attend.ensures.ending
 
 pub returns-clause-two_worlds : goal.returns-clause-two_worlds
 returns-clause-two_worlds g c world told = runs_alike (texts c.args.words.now) world
