@@ -1,12 +1,10 @@
 -- The interpreter of each program is on the host list, and a file of a host that meets the record.
 use Rattle.std.proofs.Common.{◌≡◌, ◌∙◌, sym, ap, refl, subst, ℕ, ◌++◌, List, [], ◌∷◌, Bool, true, false, cond, fold, map, Option, Some, None, is_none, inl, inr}
-use Rattle.std.specs.Prelude.{◌⊎◌}
 use Rattle.std.specs.List.{Contains, filter_map, flat_map, list_any}
 use Rattle.std.specs.Option.{option_and_then}
 use Rattle.std.specs.Result.{result_ok}
 use Rattle.std.specs.Str.{bytes_eq}
 use Rattle.std.proofs.lemmas.List.Elements.{Contains-append_left, Contains-append_right}
-use Rattle.answers.specs.First.{some_where}
 use Rattle.app_config.specs.declared.config.Config.{Config}
 use Rattle.build_laws.specs.BuiltRuns.{IsRunIn}
 use Rattle.build_laws.proofs.RunInLemmas.{run_there}
@@ -24,7 +22,6 @@ use Rattle.lib_closure.proofs.SplitLemmas.{programs_listed}
 use Rattle.listed_runs.specs.Fitting.{has_listed_interpreter, is_listed_path, is_on_list}
 use Rattle.load_model.specs.Faces.{face_or_flaw}
 use Rattle.load_model.specs.World.{World, file_at}
-use Rattle.load_model.specs.declared.faces.Face.{Face}
 use Rattle.load_model.specs.declared.runs.Run.{Run}
 use Rattle.load_model.specs.declared.setting.Setting.{Setting}
 use Rattle.load_model.specs.declared.world.WorldFile.{WorldFile}
