@@ -1,0 +1,5 @@
+pub mod CutLemmas
+pub mod KeyLemmas
+pub mod LineLemmas
+pub mod StateLemmas
+pub mod WordLemmas
