@@ -1,0 +1,5 @@
+pub mod Files
+pub mod Hosts
+pub mod Missing
+pub mod Reaching
+pub mod Verdicts
