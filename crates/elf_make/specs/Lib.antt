@@ -4,3 +4,4 @@ pub mod Parts
 pub mod DynamicTable
 pub mod Headers
 pub mod Object
+pub mod Generator
