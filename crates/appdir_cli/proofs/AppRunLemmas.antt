@@ -138,7 +138,7 @@ module _ (command : Quick) (before after : Outside) (world : World) (held kept :
   leaves Done h = done_all h.0 h.1
   leaves Refused h = refused_none h.0 h.1
   leaves Usage h = absurd h
-  leaves ReadFailed h = elim h.1 [ inl clean ↦ nothing_there clean.folder | inr cut ↦ cut_none cut.whole cut.outcome cut.cut_short ]
+  leaves ReadFailed h = elim h.2 [ inl clean ↦ nothing_there clean.folder | inr cut ↦ cut_none cut.whole cut.outcome cut.cut_short ]
   leaves WriteFailed h = elim h.cut_off.left [ inl stays ↦ nothing_there stays | inr cut ↦ cut_none h.whole h.outcome cut ]
   leaves NoMemory h = nothing_there h.folder
   leaves PrintFailed h = elim h [ inl p ↦ inl (done_all p.0 p.1) | inr q ↦ inr (refused_none q.0 q.1) ]

@@ -12,8 +12,9 @@ use Rattle.load_model.proofs.Texts.{text}
 use Rattle.path_text.specs.FileName.{IsFileName, is_file_name_text}
 use Rattle.path_text.proofs.NameLemmas.{IsFileName-from_test}
 use Rattle.app_config.specs.Names.{default_names, names_or_default}
-use Rattle.appdir_cli.specs.Words.{command_of, is_unshaped, path_told, quick_asked, quick_of, quick_with, shape_of, show_asked, show_of, texts}
-use Rattle.appdir_cli.specs.declared.words.Command.TheVariants.{Quick as AsksQuick, Show as AsksShow}
+use Rattle.appdir_cli.specs.Words.{command_of, gen_asked, gen_of, is_unshaped, path_told, quick_asked, quick_of, quick_with, shape_of, show_asked, show_of, texts}
+use Rattle.appdir_cli.specs.declared.words.Command.TheVariants.{Quick as AsksQuick, Show as AsksShow, Gen as AsksGen}
+use Rattle.appdir_cli.specs.declared.words.Gen.{Gen}
 use Rattle.appdir_cli.specs.declared.words.Quick.{Quick}
 use Rattle.appdir_cli.specs.declared.words.Show.{Show}
 
@@ -53,18 +54,26 @@ not_shown : (show : Option Show) (command : Quick) → option_map (λ s. AsksSho
 not_shown None command h = absurd (cc)
 not_shown (Some show) command h = absurd (cc)
 
-not_quick : (b : Bool) (words : List (List ℕ)) (command : Quick) → cond b (show_asked words) None ≡ Some (AsksQuick command) → ⊥
-not_quick true words command h = not_shown (show_of words) command h
-not_quick false words command h = absurd (cc)
+not_generated : (gen : Option Gen) (command : Quick) → option_map (λ g. AsksGen g) gen ≡ Some (AsksQuick command) → ⊥
+not_generated None command h = absurd (cc)
+not_generated (Some gen) command h = absurd (cc)
 
-verb_names : (b c : Bool) (words : List (List ℕ)) (command : Quick) → cond b (quick_asked words) (cond c (show_asked words) None) ≡ Some (AsksQuick command) → AreNamesIn words command.names
-verb_names true c words command h = asked_names words (quick_of words) command refl h
-verb_names false c words command h = absurd (not_quick c words command h)
+neither : (b : Bool) (words : List (List ℕ)) (command : Quick) → cond b (gen_asked words) None ≡ Some (AsksQuick command) → ⊥
+neither true words command h = not_generated (gen_of words) command h
+neither false words command h = absurd (cc)
+
+not_quick : (b c : Bool) (words : List (List ℕ)) (command : Quick) → cond b (show_asked words) (cond c (gen_asked words) None) ≡ Some (AsksQuick command) → ⊥
+not_quick true c words command h = not_shown (show_of words) command h
+not_quick false c words command h = neither c words command h
+
+verb_names : (b c d : Bool) (words : List (List ℕ)) (command : Quick) → cond b (quick_asked words) (cond c (show_asked words) (cond d (gen_asked words) None)) ≡ Some (AsksQuick command) → AreNamesIn words command.names
+verb_names true c d words command h = asked_names words (quick_of words) command refl h
+verb_names false c d words command h = absurd (not_quick c d words command h)
 
 shape_names : (words : List (List ℕ)) (command : Quick) → shape_of words ≡ Some (AsksQuick command) → AreNamesIn words command.names
 shape_names [] command h = cc
 shape_names (verb ∷ words) command h =
-    let w = verb_names (bytes_eq verb (codes "quick")) (bytes_eq verb (codes "show")) words command h in
+    let w = verb_names (bytes_eq verb (codes "quick")) (bytes_eq verb (codes "show")) (bytes_eq verb (codes "gen")) words command h in
     record { files = w.files; texts_too = λ all. w.texts_too (All-tail IsUtf8 verb words all) }
 
 word_names : (b : Bool) (words : List (List ℕ)) (command : Quick) → cond b None (shape_of words) ≡ Some (AsksQuick command) → AreNamesIn words command.names

@@ -4,16 +4,17 @@ use Rattle.load_model.specs.World.{World}
 use Rattle.ports.specs.declared.folders.MemFile.{MemFile}
 use Rattle.ports.specs.Folder.{Folder}
 use Rattle.ports.specs.View.{View}
+use Rattle.appdir_cli.proofs.GeneratingLemmas.{generated_or_refused}
 use Rattle.appdir_cli.proofs.PackingLemmas.{packed_or_refused}
 use Rattle.appdir_cli.proofs.ShowingLemmas.{shown_or_refused}
-use Rattle.appdir_cli.specs.ComesTo.{ComesTo}
+use Rattle.appdir_cli.specs.ComesTo.{ComesTo, world_read}
 use Rattle.deliveries.specs.Delivery.{IsFull}
 use Rattle.appdir_cli.specs.Endings.{Ends, EndsFor, EndsUnshaped, Expects, IsComplete, IsGiven, IsRefused, Outside, packing_status}
 use Rattle.deliveries.specs.declared.answer.Answer.{Answer}
 use Rattle.deliveries.specs.declared.answer.Answer.TheVariants.{Says, Packs}
 use Rattle.deliveries.specs.declared.answer.Whole.{Whole}
 use Rattle.appdir_cli.specs.declared.words.Command.{Command}
-use Rattle.appdir_cli.specs.declared.words.Command.TheVariants.{Quick, Show}
+use Rattle.appdir_cli.specs.declared.words.Command.TheVariants.{Quick, Show, Gen}
 use Rattle.refusals.specs.declared.refusal.Refusal.{Refusal}
 use Rattle.deliveries.specs.declared.status.Status.{Status}
 use Rattle.deliveries.specs.declared.status.Status.TheVariants.{Done, Refused, Usage, ReadFailed, WriteFailed, NoMemory, PrintFailed}
@@ -24,11 +25,14 @@ never_both world (Quick quick) (Says text) refusal given refused = given
 never_both world (Quick quick) (Packs whole) refusal given refused = packed_or_refused world quick whole refusal given refused
 never_both world (Show show) (Says text) refusal given refused = shown_or_refused world show text refusal given refused
 never_both world (Show show) (Packs whole) refusal given refused = given
+never_both world (Gen gen) (Says text) refusal given refused = generated_or_refused world gen.count text refusal given refused
+never_both world (Gen gen) (Packs whole) refusal given refused = given
 
 -- nor a text and files
 pub one_kind : (world : World) (command : Command) (text : List ℕ) (whole : Whole) → ComesTo world command (Ok (Says text)) → ComesTo world command (Ok (Packs whole)) → ⊥
 one_kind world (Quick quick) text whole says packs = says
 one_kind world (Show show) text whole says packs = packs
+one_kind world (Gen gen) text whole says packs = packs
 
 full_is_refused : (files : List MemFile) → files ≢ [] → Refused ≡ packing_status files
 full_is_refused [] full = absurd (full refl)
@@ -51,7 +55,7 @@ module _ (world : World) (command : Command) (told : Option World) (folder folde
   over_expects whole (Ok (Says text)) is full comes = absurd (one_kind world command text whole comes is)
   over_expects whole (Ok (Packs other)) is full comes = λ held holds. full_is_refused held.finished (full.held held holds)
 
-refused_expects : (command : Command) (before after : Outside) (text : List ℕ) (world : World) (outcome : Result Answer Refusal) → IsRefused command before after text → before.tree.told ≡ Some world → ComesTo world command outcome → Expects outcome before.folder Refused
+refused_expects : (command : Command) (before after : Outside) (text : List ℕ) (world : World) (outcome : Result Answer Refusal) → IsRefused command before after text → world_read command before.tree.told ≡ Some world → ComesTo world command outcome → Expects outcome before.folder Refused
 refused_expects command before after text world outcome refused told comes =
     elim refused.reason [
       | inl decided ↦ decided_expects world command before.tree.told before.folder after.folder refused.refusal outcome (decided.outcome world told) comes
@@ -62,7 +66,7 @@ complete_for : (command : Command) (before after : Outside) (status : Status) �
 complete_for command before after Done h = λ world outcome told comes clean. inl (done_expects world command before.tree.told before.folder after.folder h.1.answer outcome (h.1.outcome world told) h.1.given comes)
 complete_for command before after Refused h = λ world outcome told comes clean. inl (refused_expects command before after h.0 world outcome h.1 told comes)
 complete_for command before after Usage h = absurd h
-complete_for command before after ReadFailed h = λ world outcome told comes clean. absurd (clean.tree h.0)
+complete_for command before after ReadFailed h = λ world outcome told comes clean. absurd (clean.tree h.1)
 complete_for command before after WriteFailed h = λ world outcome told comes clean. absurd (clean.folder h.cut_off.cause)
 complete_for command before after NoMemory h = λ world outcome told comes clean. inr refl
 complete_for command before after PrintFailed h = λ world outcome told comes clean. elim h [ inl p ↦ absurd (clean.sink p.2.cause) | inr q ↦ absurd (clean.sink q.2.cause) ]

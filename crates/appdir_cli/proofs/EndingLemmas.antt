@@ -2,6 +2,8 @@
 use Rattle.std.proofs.Common.{ℕ, List, ◌≡◌, ◌≤◌, ◌∙◌, inl, inr, refl, sym, subst, Option, Ok, Err, arith}
 use Rattle.deliveries.proofs.DeliveryLemmas.{rose_later}
 use Rattle.deliveries.specs.Delivery.{IsAnswerDelivered, IsAnswerProbed, IsCutOff, IsCutShort, IsDelivered, IsFull, IsWhole}
+use Rattle.appdir_cli.specs.ComesTo.{ReadsTree}
+use Rattle.elf_make.specs.Generator.{made_tree}
 use Rattle.appdir_cli.specs.Endings.{EndsFor, EndsUnshaped, IsDone, IsOutcome, IsRefused, Outside}
 use Rattle.load_model.specs.World.{World}
 use Rattle.ports.specs.Folder.{Folder}
@@ -12,11 +14,18 @@ use Rattle.deliveries.specs.declared.answer.Answer.{Answer}
 use Rattle.deliveries.specs.declared.answer.Answer.TheVariants.{Packs, Says}
 use Rattle.deliveries.specs.declared.answer.Whole.{Whole}
 use Rattle.appdir_cli.specs.declared.words.Command.{Command}
+use Rattle.appdir_cli.specs.declared.words.Command.TheVariants.{Quick, Show, Gen}
 use Rattle.refusals.specs.declared.refusal.Refusal.{Refusal}
 use Rattle.refusals.specs.declared.folder_refusal.FolderRefusal.TheVariants.{NotEmpty}
 use Rattle.refusals.specs.declared.refusal.Refusal.TheVariants.{Folder as RefusesFolder}
 use Rattle.deliveries.specs.declared.status.Status.{Status}
 use Rattle.deliveries.specs.declared.status.Status.TheVariants.{Done, Refused, Usage, ReadFailed, WriteFailed, NoMemory, PrintFailed}
+
+-- a command that comes to files reads the tree
+packs_reads : (command : Command) (before : Outside) (whole : Whole) → IsOutcome command before (Ok (Packs whole)) → ReadsTree command
+packs_reads (Quick quick) before whole h = tt
+packs_reads (Show show) before whole h = tt
+packs_reads (Gen gen) before whole h = h (made_tree gen.count) refl
 
 module _ (command : Command) (before after : Outside) (whole : Whole) (outcome : IsOutcome command before (Ok (Packs whole))) where
   done : IsWhole before.tree.told whole before.folder after.folder → IsDone command before after whole.line
@@ -37,7 +46,7 @@ module _ (command : Command) (before after : Outside) (whole : Whole) (outcome :
       ]
   delivered_ends Usage h = h
   delivered_ends ReadFailed h =
-      (h.0, inr (record { whole = whole; outcome = outcome; cut_short = h.1; silent = h.2 }))
+      (packs_reads command before whole outcome, h.0, inr (record { whole = whole; outcome = outcome; cut_short = h.1; silent = h.2 }))
 
 module _ (command : Command) (before after : Outside) (refusal : Refusal) (outcome : IsOutcome command before (Err refusal)) (untouched : Stays before.folder after.folder) where
   decided : IsRefused command before after (refusal_line refusal)

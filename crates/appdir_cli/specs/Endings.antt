@@ -6,7 +6,7 @@ use Rattle.answers.specs.Told.{WhereTold}
 use Rattle.ports.specs.declared.folders.MemFile.{MemFile}
 use Rattle.ports.specs.Folder.{Folder}
 use Rattle.ports.specs.View.{View, Stays}
-use Rattle.appdir_cli.specs.ComesTo.{ComesTo}
+use Rattle.appdir_cli.specs.ComesTo.{ComesTo, ReadsTree, world_read}
 use Rattle.deliveries.specs.Delivery.{IsCutOff, IsCutShort, IsFull, IsWhole}
 use Rattle.refusals.specs.Lines.{refusal_line, usage_text}
 use Rattle.deliveries.specs.Saying.{Took, TookPart}
@@ -29,10 +29,10 @@ pub record Outside : Type 0 where
 abbrev pub outside : View World → View Folder → View (List ℕ) → Outside
 outside tree folder sink = record { tree = tree; folder = folder; sink = sink }
 
--- Where the tree tells its world, the command comes to this there.
+-- In the world that it reads, where that is told, the command comes to this.
 abbrev pub IsOutcome : Command → Outside → Result Answer Refusal → Type 0
 IsOutcome command before outcome =
-    WhereTold before.tree.told (λ world. ComesTo world command outcome)
+    WhereTold (world_read command before.tree.told) (λ world. ComesTo world command outcome)
 
 abbrev pub answer_text : Answer → List ℕ
 answer_text (Says text) = text
@@ -101,7 +101,7 @@ abbrev pub EndsFor : Command → Outside → Outside → Status → Type 0
 EndsFor command before after Done = IsEnded (IsDone command before after) before after
 EndsFor command before after Refused = IsEnded (IsRefused command before after) before after
 EndsFor command before after ReadFailed =
-    Rose before.tree.faults after.tree.faults
+    ReadsTree command × Rose before.tree.faults after.tree.faults
     × (IsUntouched before after ⊎ IsUnread command before after)
 EndsFor command before after WriteFailed = IsUnwritten command before after
 EndsFor command before after NoMemory = IsUntouched before after
@@ -150,6 +150,7 @@ abbrev pub IsComplete : Option Command → Outside → Outside → Status → Ty
 IsComplete None before after status =
     IsFaultless before after → (status ≡ Usage) ⊎ (status ≡ NoMemory)
 IsComplete (Some command) before after status =
-    (world : World) (outcome : Result Answer Refusal) → before.tree.told ≡ Some world
+    (world : World) (outcome : Result Answer Refusal)
+    → world_read command before.tree.told ≡ Some world
     → ComesTo world command outcome → IsFaultless before after
     → Expects outcome before.folder status ⊎ (status ≡ NoMemory)

@@ -1,6 +1,8 @@
+pub mod Answering
 pub mod AppRun
 pub mod ComesTo
 pub mod Endings
+pub mod Generating
 pub mod Packing
 pub mod SameEverywhere
 pub mod Showing

@@ -1,14 +1,17 @@
 -- The shapes of the words.
-use Rattle.std.specs.Prelude.{ℕ, List, [], ◌∷◌, Bool, true, cond, ◌==◌, Option, Some, None, option_map, codes, map, string_bytes, String}
+use Rattle.std.specs.Prelude.{ℕ, ◌^◌, ◌<◌, ◌≡◌, ◌&&◌, nat_le, List, [], ◌∷◌, Bool, true, cond, ◌==◌, Option, Some, None, option_map, codes, map, string_bytes, String}
+use Rattle.std.specs.Fmt.{decimal}
 use Rattle.std.specs.Global.{Global}
-use Rattle.std.specs.List.{list_any, list_all}
+use Rattle.std.specs.List.{find, list_any, list_all, range_with_len}
 use Rattle.std.specs.Result.{result_ok}
 use Rattle.std.specs.Str.{bytes_eq}
 use Rattle.path_text.specs.Path.{path_of}
 use Rattle.path_text.specs.FileName.{is_file_name_text}
 use Rattle.app_config.specs.Settings.{default_dirs}
+use Rattle.elf_make.specs.Generator.{IsTreeSize}
 use Rattle.appdir_cli.specs.declared.words.Command.{Command}
-use Rattle.appdir_cli.specs.declared.words.Command.TheVariants.{Quick as AsksQuick, Show as AsksShow}
+use Rattle.appdir_cli.specs.declared.words.Command.TheVariants.{Quick as AsksQuick, Show as AsksShow, Gen as AsksGen}
+use Rattle.appdir_cli.specs.declared.words.Gen.{Gen}
 use Rattle.appdir_cli.specs.declared.words.Quick.{Quick}
 use Rattle.appdir_cli.specs.declared.words.Show.{Show}
 
@@ -59,6 +62,29 @@ abbrev pub show_of : List (List ℕ) → Option Show
 show_of (program ∷ dirs) = show_with (path_told program) (paths_told dirs)
 show_of [] = None
 
+-- The text is the decimal form of a number of 32 bits, or of none.
+abbrev pub IsDecimalOf : List ℕ → Option ℕ → Type 0
+IsDecimalOf text (Some n) = (n < 2 ^ 32) × (text ≡ decimal n)
+IsDecimalOf text None = (n : ℕ) → n < 2 ^ 32 → text ≡ decimal n → ⊥
+
+-- The number, where a tree may have so many libraries.
+abbrev pub tree_size : Option ℕ → Option ℕ
+tree_size (Some n) = cond (nat_le 1 n && nat_le n 1000) (Some n) None
+tree_size None = None
+
+-- The number from 1 to 1,000 whose decimal form a text is.
+unfoldable pub count_told : List ℕ → Option ℕ
+count_told text = find (λ n. bytes_eq (decimal n) text) (range_with_len 1 1000)
+
+abbrev pub gen_with : Option ℕ → Option Gen
+gen_with (Some n) = Some (record { count = n })
+gen_with None = None
+
+-- The shape N.
+abbrev pub gen_of : List (List ℕ) → Option Gen
+gen_of (count ∷ []) = gen_with (count_told count)
+gen_of _ = None
+
 -- What the words behind a verb ask for.
 abbrev pub quick_asked : List (List ℕ) → Option Command
 quick_asked words = option_map (λ quick. AsksQuick quick) (quick_of words)
@@ -66,12 +92,22 @@ quick_asked words = option_map (λ quick. AsksQuick quick) (quick_of words)
 abbrev pub show_asked : List (List ℕ) → Option Command
 show_asked words = option_map (λ show. AsksShow show) (show_of words)
 
+abbrev pub gen_asked : List (List ℕ) → Option Command
+gen_asked words = option_map (λ gen. AsksGen gen) (gen_of words)
+
 abbrev pub shape_of : List (List ℕ) → Option Command
 shape_of (verb ∷ words) =
     cond (bytes_eq verb (codes "quick")) (quick_asked words)
-    (cond (bytes_eq verb (codes "show")) (show_asked words) None)
+    (cond (bytes_eq verb (codes "show")) (show_asked words)
+    (cond (bytes_eq verb (codes "gen")) (gen_asked words) None))
 shape_of [] = None
 
 -- The command that the words have the shape of, or none.
 abbrev pub command_of : List (List ℕ) → Option Command
 command_of words = cond (list_any is_unshaped words) None (shape_of words)
+
+-- A tree that a command makes has a size that trees may have.
+abbrev pub IsSized : Command → Type 0
+IsSized (AsksQuick command) = Unit {0}
+IsSized (AsksShow command) = Unit {0}
+IsSized (AsksGen command) = IsTreeSize command.count

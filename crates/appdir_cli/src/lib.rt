@@ -1,6 +1,7 @@
 //! The command line of the AppDir builder: words in, an answer and an AppDir out.
 #![tactic(auto)]
 
+mod generating;
 mod obeying;
 mod packing;
 mod showing;
@@ -10,4 +11,4 @@ mod words;
 pub use deliveries::{Answer, Status, Whole, exit_number, status_name};
 pub use refusals::Refusal;
 pub use top::appdir_main;
-pub use words::{Command, Quick, Show};
+pub use words::{Command, Gen, Quick, Show};

@@ -2,12 +2,13 @@
 //! `specs/ComesTo.antt` and `specs/Endings.antt`.
 
 ghost use Rattle.std.specs.Prelude.{◌≤◌, IfOk};
-ghost use Rattle.appdir_cli.specs.ComesTo.{ComesTo};
+ghost use Rattle.appdir_cli.specs.Answering.{IsAnswerTo};
 ghost use Rattle.appdir_cli.specs.Endings.{EndsFor, outside};
-ghost use Rattle.build_plan.specs.Steps.{IsStepAnswer};
+ghost use Rattle.appdir_cli.specs.Words.{IsSized};
 ghost use Rattle.deliveries.specs.Delivery.{IsAnswerProbed};
 ghost use Rattle.ports.specs.View.{OnlyReads};
 
+use crate::generating::generate;
 use crate::packing::quick;
 use crate::showing::show;
 use crate::words::Command;
@@ -17,15 +18,17 @@ use ports::{OutDir, Sink, Tree};
 use std::alloc::Global;
 
 /// What the command comes to.
+#[tactic(auto, using(crate::proofs::AnsweringLemmas::quick_answers, crate::proofs::AnsweringLemmas::show_answers, crate::proofs::AnsweringLemmas::gen_answers))]
 fn answer<T: Tree>(alloc: Global, tree: &mut T, command: &Command) -> Result<Answer, BuildStop>
-    ensures answer { IsStepAnswer (T.seen tree.old) (T.seen tree.new)
-        (λ world outcome. ComesTo world command.now outcome) result }
+    requires { IsSized command.now }
+    ensures answer { IsAnswerTo command.now (T.seen tree.old) (T.seen tree.new) result }
     ensures probed { IfOk result (IsAnswerProbed (T.seen tree.old).told) }
     ensures only_reads { OnlyReads (T.seen tree.old) (T.seen tree.new) }
 {
     match command {
         Command::Quick(command) => quick(alloc, tree, command),
         Command::Show(command) => show(alloc, tree, command),
+        Command::Gen(command) => generate(alloc, command),
     }
 }
 
@@ -37,6 +40,7 @@ pub fn obey<T: Tree, O: OutDir, S: Sink>(
     out: &mut O,
     sink: &mut S,
 ) -> Status
+    requires { IsSized command.now }
     ensures ending { EndsFor command.now
         (outside (T.seen tree.old) (O.seen out.old) (S.seen sink.old))
         (outside (T.seen tree.new) (O.seen out.new) (S.seen sink.new)) result }

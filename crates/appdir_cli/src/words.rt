@@ -1,7 +1,7 @@
 ghost use Rattle.std.specs.Prelude.{◌≡◌, [], ◌∷◌, ◌++◌, IfOk, MatchOption, OnOk, string_bytes};
 ghost use Rattle.std.specs.List.{list_all, list_any};
 ghost use Rattle.path_text.specs.FileName.{is_file_name_text};
-ghost use Rattle.appdir_cli.specs.Words.{command_of, dirs_of, is_unshaped, path_told, paths_told, quick_asked, quick_of, quick_with, shape_of, show_asked, show_of, show_with, texts};
+ghost use Rattle.appdir_cli.specs.Words.{IsDecimalOf, command_of, count_told, dirs_of, gen_asked, gen_of, gen_with, is_unshaped, path_told, paths_told, quick_asked, quick_of, quick_with, shape_of, show_asked, show_of, show_with, texts, tree_size};
 
 use app_config::default_dirs;
 use load_model::{List, Name};
@@ -26,12 +26,22 @@ pub struct Show {
     pub dirs: List<Abs>,
 }
 
+/// `gen N`: make a tree of N libraries in memory, and say what packing its program counts.
+#[derive(Drop)]
+pub struct Gen {
+    pub count: u32,
+}
+
 /// What the words ask for.
 #[derive(Drop)]
 pub enum Command {
     Quick(Quick),
     Show(Show),
+    Gen(Gen),
 }
+
+/// How many libraries a made tree may have.
+const MOST: u32 = 1_000;
 
 /// The command that the words have the shape of, or none.
 pub fn read_words(alloc: Global, words: &[String]) -> Result<Option<Command>, NoMemory>
@@ -88,6 +98,9 @@ fn read_shape(alloc: Global, verb: &[u8], words: &[String]) -> Result<Option<Com
     if verb == b"show".as_slice() {
         return ask_show(alloc, words);
     }
+    if verb == b"gen".as_slice() {
+        return ask_gen(alloc, words);
+    }
     Ok(None)
 }
 
@@ -105,6 +118,15 @@ fn ask_show(alloc: Global, words: &[String]) -> Result<Option<Command>, NoMemory
 {
     match read_show(alloc, words)? {
         Some(show) => Ok(Some(Command::Show(show))),
+        None => Ok(None),
+    }
+}
+
+fn ask_gen(alloc: Global, words: &[String]) -> Result<Option<Command>, NoMemory>
+    ensures { IfOk result (λ command. command ≡ gen_asked (texts words.now)) }
+{
+    match read_gen(alloc, words)? {
+        Some(asked) => Ok(Some(Command::Gen(asked))),
         None => Ok(None),
     }
 }
@@ -168,6 +190,60 @@ fn show_words(
     };
     let dirs = given_dirs(alloc, dirs)?;
     Ok(Some(Show { program, dirs }))
+}
+
+fn read_gen(alloc: Global, words: &[String]) -> Result<Option<Gen>, NoMemory>
+    ensures { IfOk result (λ command. command ≡ gen_of (texts words.now)) }
+{
+    match split_word(words) {
+        Some((count, [])) => gen_words(alloc, count),
+        _ => Ok(None),
+    }
+}
+
+fn gen_words(alloc: Global, count: &[u8]) -> Result<Option<Gen>, NoMemory>
+    ensures { IfOk result (λ command. command ≡ gen_with (count_told count.now)) }
+{
+    match read_count(alloc, count)? {
+        Some(count) => Ok(Some(Gen { count })),
+        None => Ok(None),
+    }
+}
+
+/// How many libraries a word says, where a tree may have so many.
+fn read_count(alloc: Global, word: &[u8]) -> Result<Option<u32>, NoMemory>
+    ensures { IfOk result (λ count. count ≡ count_told word.now) }
+{
+    let number = read_number(alloc, word)?;
+    Ok(tree_size(number))
+}
+
+/// The number of which a word is the decimal form, if it has 32 bits.
+fn read_number(alloc: Global, word: &[u8]) -> Result<Option<u32>, NoMemory>
+    ensures { IfOk result (λ number. IsDecimalOf word.now number) }
+{
+    let Ok(digits) = str::from_utf8(word) else {
+        return Ok(None);
+    };
+    let Ok(n) = digits.parse::<u32>() else {
+        return Ok(None);
+    };
+    let again = format!(in alloc; "{n}")?;
+    if again.as_str().as_bytes() == word {
+        Ok(Some(n))
+    } else {
+        Ok(None)
+    }
+}
+
+/// A number, where a tree may have so many libraries.
+fn tree_size(number: Option<u32>) -> Option<u32>
+    ensures { result ≡ tree_size number }
+{
+    match number {
+        Some(n) if 1 <= n && n <= MOST => Some(n),
+        _ => None,
+    }
 }
 
 /// These directories, or the default ones where there are none.

@@ -1,8 +1,6 @@
 use Rattle.std.proofs.Common.{subst, refl, inl, Err}
-use Rattle.build_plan.specs.Steps.{IsStepAnswer}
 use Rattle.build_plan.specs.declared.stops.BuildStop.{BuildStop}
-use Rattle.deliveries.specs.declared.answer.Answer.{Answer}
-use Rattle.appdir_cli.specs.ComesTo.{ComesTo}
+use Rattle.appdir_cli.specs.Answering.{IsAnswerTo}
 use Rattle.appdir_cli.specs.Endings.{outside}
 use Rattle.appdir_cli.proofs.EndingLemmas.{answer_ends, both_read, given_since, probed_since, refused_ends}
 use Rattle.appdir_cli.proofs.obeying.obey.Goals as goal
@@ -23,9 +21,10 @@ returns-in-Ok-clause-only_reads g c =
 pub returns-in-Err-Refused-clause-ending : goal.returns-in-Err-Refused-clause-ending
 returns-in-Err-Refused-clause-ending g c =
     refused_ends c.args.command.now (outside (g.T.Tree.seen c.args.tree.now) (g.O.OutDir.seen c.args.out.now) (g.S.Sink.seen c.args.sink.now)) (outside (g.T.Tree.seen c.answer.new.tree) (g.O.OutDir.seen c.args.out.now) (g.S.Sink.seen c.refuse.new.sink)) c.in-Err-Refused.refusal
-    (subst (λ (stop : BuildStop). IsStepAnswer {A = Answer} (g.T.Tree.seen c.args.tree.now) (g.T.Tree.seen c.answer.new.tree) (λ world outcome. ComesTo world c.args.command.now outcome) (Err stop)) c.in-Err-Refused.field-0-is c.in-Err-Refused.ensures.answer)
+    (subst (λ (stop : BuildStop). IsAnswerTo c.args.command.now (g.T.Tree.seen c.args.tree.now) (g.T.Tree.seen c.answer.new.tree) (Err stop)) c.in-Err-Refused.field-0-is c.in-Err-Refused.ensures.answer)
     refl c.refuse.result c.refuse.ensures.said
 
 pub returns-in-Err-Read-clause-ending : goal.returns-in-Err-Read-clause-ending
 returns-in-Err-Read-clause-ending g c =
-    (subst (λ (stop : BuildStop). IsStepAnswer {A = Answer} (g.T.Tree.seen c.args.tree.now) (g.T.Tree.seen c.answer.new.tree) (λ world outcome. ComesTo world c.args.command.now outcome) (Err stop)) c.in-Err-Read.field-0-is c.in-Err-Read.ensures.answer, inl (record { folder = refl; sink = refl }))
+    let read = subst (λ (stop : BuildStop). IsAnswerTo c.args.command.now (g.T.Tree.seen c.args.tree.now) (g.T.Tree.seen c.answer.new.tree) (Err stop)) c.in-Err-Read.field-0-is c.in-Err-Read.ensures.answer in
+    (read.0, read.1, inl (record { folder = refl; sink = refl }))

@@ -3,7 +3,12 @@ use Rattle.appdir_cli.specs.Endings.{Ends, Outside, outside}
 use Rattle.appdir_cli.specs.Words.{command_of, texts}
 use Rattle.appdir_cli.specs.declared.words.Command.{Command}
 use Rattle.appdir_cli.proofs.EndingLemmas.{unshaped_ends}
+use Rattle.appdir_cli.proofs.SizeLemmas.{command_sized}
 use Rattle.appdir_cli.proofs.top.attend.Goals as goal
+
+pub obey-requires : goal.obey-requires
+obey-requires g c =
+    command_sized (texts c.args.words.now) c.in-Ok-Some.command (sym c.in-Ok-Some.field-0-is ∙ c.in-Ok-Some.ensures)
 
 pub returns-in-Ok-Some-clause-ending : goal.returns-in-Ok-Some-clause-ending
 returns-in-Ok-Some-clause-ending g c =
