@@ -1,3 +1,4 @@
 pub mod Configs
 pub mod Names
+pub mod Ready
 pub mod Settings

@@ -1,0 +1,9 @@
+pub mod AnswerLemmas
+pub mod ListLemmas
+pub mod ReadingLemmas
+pub mod ReadyConfigLemmas
+pub mod ReadyLemmas
+pub mod TableLemmas
+pub mod TargetLemmas
+pub mod UnknownLemmas
+pub mod ValueLemmas
