@@ -1,6 +1,6 @@
 mod NumberLemmas
 mod LookLemmas
 mod VersionLemmas
-mod OrderLemmas
-mod CanonicalLemmas
+pub mod OrderLemmas
+pub mod CanonicalLemmas
 pub mod ClosingLemmas

@@ -1,5 +1,5 @@
 -- What the search of a library in the listed directories says of a host.
-use Rattle.std.proofs.Common.{◌≡◌, ◌∙◌, sym, ap, ℕ, ◌<◌, List, Option, Some, None, Result, Ok, Err, get_or, length}
+use Rattle.std.proofs.Common.{◌≡◌, ◌∙◌, sym, ap, ℕ, List, Option, Some, Result, Ok, Err, get_or}
 use Rattle.std.specs.Option.{option_map}
 use Rattle.load_model.specs.Candidates.{first_decision, listed_candidates}
 use Rattle.load_model.specs.Faces.{face_or_flaw}

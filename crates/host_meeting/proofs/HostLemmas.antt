@@ -1,12 +1,11 @@
 -- What an opener that only grew tells of a host.
-use Rattle.std.proofs.Common.{◌≡◌, ◌≢◌, ◌∙◌, sym, ap, refl, ℕ, ◌<◌, ◌≤◌, List, [], ◌∷◌, All, Bool, true, false, Option, Some, None, is_none, length, map, slice_get, take, arith}
+use Rattle.std.proofs.Common.{◌≡◌, ◌≢◌, ◌∙◌, sym, ap, refl, ℕ, ◌<◌, List, [], ◌∷◌, All, false, Option, Some, None, is_none, length, map, slice_get, arith}
 use Rattle.std.specs.List.{Contains}
 use Rattle.std.specs.Option.{option_map}
 use Rattle.answers.specs.First.{some_where}
 use Rattle.byte_view.specs.declared.flaws.Flaw.{Flaw}
 use Rattle.lib_closure.proofs.ContainedLemmas.{here, is_there, later, place_of}
 use Rattle.load_model.specs.Faces.{face_or_flaw}
-use Rattle.load_model.specs.LoadList.{Object}
 use Rattle.load_model.specs.Opening.{IsPlace, OnlyGrew, OpenerView}
 use Rattle.load_model.specs.World.{World, Kind, Absent, file_at, kind_of, kind_of_file}
 use Rattle.load_model.specs.declared.faces.Face.{Face}

@@ -1,6 +1,8 @@
 pub mod FirstLemmas
 pub mod FileLemmas
 pub mod SameFileLemmas
+pub mod NamedLemmas
+pub mod PlaceLemmas
 pub mod ReachingLemmas
 pub mod HostLemmas
 pub mod FindingLemmas

@@ -21,7 +21,7 @@ use Rattle.text_sets.proofs.MappedLemmas.{find-position}
 use Rattle.text_sets.proofs.FoundLemmas.{none_any, position_within}
 use Rattle.version_files.proofs.TakenLemmas.{take_next}
 use Rattle.host_meeting.proofs.FileLemmas.{of_lib, one_file_by, read_at}
-use Rattle.host_meeting.specs.Files.{HasFiles, object_of}
+use Rattle.host_meeting.specs.Files.{HasFiles}
 use Rattle.host_meeting.specs.declared.files.LibFile.{LibFile}
 
 next_beside : (libs : List RecLib) (i : ℕ) (x : RecLib) → i < length libs → x ≡ get_or libs i x → beside_earlier (take i libs) (drop i libs) ≡ (take i libs, x) ∷ beside_earlier (take (i + 1) libs) (drop (i + 1) libs)

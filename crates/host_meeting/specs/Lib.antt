@@ -1,5 +1,7 @@
 pub mod Files
 pub mod Hosts
+pub mod LibPlaces
 pub mod Missing
+pub mod Named
 pub mod Reaching
 pub mod Verdicts

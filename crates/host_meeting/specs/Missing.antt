@@ -1,5 +1,5 @@
 -- What keeps the files of a host from being found, up to want of memory and reads that failed.
-use Rattle.std.specs.Prelude.{ℕ, List, ◌≡◌, Option, None, Some}
+use Rattle.std.specs.Prelude.{ℕ, List, ◌≡◌, Option, Some}
 use Rattle.answers.specs.Faults.{Rose}
 use Rattle.load_model.specs.Opening.{OpenerView}
 use Rattle.load_model.specs.World.{World}

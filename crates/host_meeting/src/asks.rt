@@ -1,7 +1,6 @@
 //! Whether the versions that libraries of a host ask of one another are there.
 
-ghost use Rattle.std.specs.Prelude.{◌≡◌, IfOk, MatchOption, Some, true, false, flat_map, length, map, not, position};
-ghost use Rattle.std.specs.Str.{bytes_eq};
+ghost use Rattle.std.specs.Prelude.{◌≡◌, IfOk, MatchOption, Some, true, false, flat_map, length, map, not};
 ghost use Rattle.answers.specs.First.{first_some, some_where};
 ghost use Rattle.load_model.specs.Faces.{face_or_flaw};
 ghost use Rattle.host_list.specs.Meeting.{lib_object, own_difference, own_differences};
@@ -11,6 +10,7 @@ ghost use Rattle.host_meeting.specs.Files.{WhereFiles, object_of};
 ghost use Rattle.host_meeting.specs.Reaching.{AreReached};
 
 use crate::files::LibFile;
+use crate::lib_places::LibPlaces;
 use crate::reaching::reached_from;
 use host_list::{Difference, RecLib, Record};
 use load_model::{Ask, Name, NoMemory};
@@ -18,10 +18,10 @@ use std::alloc::Global;
 use text_sets::TextSet;
 
 /// The first ask of a library that the libraries do not meet.
-pub fn own_difference(
+pub fn own_difference<'a>(
     alloc: Global,
-    rec: &Record,
-    files: &[LibFile<'_>],
+    rec: &'a Record,
+    files: &[LibFile<'a>],
 ) -> Result<Option<Difference>, NoMemory>
     requires declared { needs_declared rec.now.libs ≡ true }
     requires files { length files.now ≡ length rec.now.libs }
@@ -29,10 +29,26 @@ pub fn own_difference(
         ≡ first_some (flat_map (own_differences face_or_flaw setting world rec.now)
         rec.now.libs))) }
 {
-    for (number, lib) in rec.libs.as_slice().iter().enumerate() {
+    let libs = LibPlaces::of(alloc, rec)?;
+    first_unmet(alloc, &libs, files)
+}
+
+/// The first ask of a library that these libraries do not meet.
+fn first_unmet<'a>(
+    alloc: Global,
+    libs: &LibPlaces<'a>,
+    files: &[LibFile<'a>],
+) -> Result<Option<Difference>, NoMemory>
+    requires declared { needs_declared libs.now.rec.now.libs ≡ true }
+    requires files { length files.now ≡ length libs.now.rec.now.libs }
+    ensures { IfOk result (λ found. WhereFiles libs.now.rec.now files.now (λ setting world. found
+        ≡ first_some (flat_map (own_differences face_or_flaw setting world libs.now.rec.now)
+        libs.now.rec.now.libs))) }
+{
+    for (number, lib) in libs.rec.libs.as_slice().iter().enumerate() {
         let face = files[number].face;
         let asks = face.asks.as_slice();
-        if let Some(difference) = unmet_of(alloc, rec, files, lib, asks)? {
+        if let Some(difference) = unmet_of(alloc, libs, files, lib, asks)? {
             return Ok(Some(difference));
         }
     }
@@ -40,23 +56,23 @@ pub fn own_difference(
 }
 
 /// The first ask of a library that is not met.
-fn unmet_of(
+fn unmet_of<'a>(
     alloc: Global,
-    rec: &Record,
-    files: &[LibFile<'_>],
-    lib: &RecLib,
-    asks: &[Ask],
+    libs: &LibPlaces<'a>,
+    files: &[LibFile<'a>],
+    lib: &'a RecLib,
+    asks: &'a [Ask],
 ) -> Result<Option<Difference>, NoMemory>
-    requires declared { needs_declared rec.now.libs ≡ true }
-    requires lib { is_declared (lib_names rec.now.libs) lib.now.name ≡ true }
-    requires files { length files.now ≡ length rec.now.libs }
-    ensures { IfOk result (λ found. WhereFiles rec.now files.now (λ setting world. found
-        ≡ first_some (map (own_difference face_or_flaw setting world rec.now lib.now)
+    requires declared { needs_declared libs.now.rec.now.libs ≡ true }
+    requires lib { is_declared (lib_names libs.now.rec.now.libs) lib.now.name ≡ true }
+    requires files { length files.now ≡ length libs.now.rec.now.libs }
+    ensures { IfOk result (λ found. WhereFiles libs.now.rec.now files.now (λ setting world. found
+        ≡ first_some (map (own_difference face_or_flaw setting world libs.now.rec.now lib.now)
         asks.now))) }
 {
-    let reached = reached_from(alloc, rec.libs.as_slice(), &lib.name)?;
+    let reached = reached_from(alloc, libs, &lib.name)?;
     for ask in asks {
-        if !is_met(rec, files, lib, &reached, ask) {
+        if !is_met(libs, files, lib, &reached, ask) {
             return Ok(Some(unmet(alloc, lib, ask)?));
         }
     }
@@ -64,13 +80,19 @@ fn unmet_of(
 }
 
 /// Whether an ask of a library, which reaches these names, is met.
-fn is_met(rec: &Record, files: &[LibFile<'_>], lib: &RecLib, reached: &TextSet, ask: &Ask) -> bool
-    requires declared { needs_declared rec.now.libs ≡ true }
-    requires lib { is_declared (lib_names rec.now.libs) lib.now.name ≡ true }
-    requires files { length files.now ≡ length rec.now.libs }
-    requires reached { AreReached rec.now.libs lib.now.name reached.now }
-    ensures { WhereFiles rec.now files.now (λ setting world.
-        own_difference face_or_flaw setting world rec.now lib.now ask.now
+fn is_met<'a>(
+    libs: &LibPlaces<'a>,
+    files: &[LibFile<'a>],
+    lib: &RecLib,
+    reached: &TextSet,
+    ask: &'a Ask,
+) -> bool
+    requires declared { needs_declared libs.now.rec.now.libs ≡ true }
+    requires lib { is_declared (lib_names libs.now.rec.now.libs) lib.now.name ≡ true }
+    requires files { length files.now ≡ length libs.now.rec.now.libs }
+    requires reached { AreReached libs.now.rec.now.libs lib.now.name reached.now }
+    ensures { WhereFiles libs.now.rec.now files.now (λ setting world.
+        own_difference face_or_flaw setting world libs.now.rec.now lib.now ask.now
         ≡ some_where (not result) (OwnVersion lib.now.name ask.now.file ask.now.name)) }
 {
     if ask.weak {
@@ -79,31 +101,23 @@ fn is_met(rec: &Record, files: &[LibFile<'_>], lib: &RecLib, reached: &TextSet, 
     if !reached.contains(ask.file.as_bytes()) {
         return false;
     }
-    match file_of(rec, files, &ask.file) {
+    match file_of(libs, files, &ask.file) {
         Some(file) => file.has_version(&ask.name),
         None => true,
     }
 }
 
 /// The file of the library of this name.
-fn file_of<'a>(rec: &Record, files: &[LibFile<'a>], name: &Name) -> Option<LibFile<'a>>
-    requires { length files.now ≡ length rec.now.libs }
-    ensures { MatchOption result (is_declared (lib_names rec.now.libs) name.now ≡ false)
-        (λ f. WhereFiles rec.now files.now (λ setting world.
-        lib_object face_or_flaw setting world rec.now name.now ≡ Some (object_of f))) }
+fn file_of<'a>(libs: &LibPlaces<'a>, files: &[LibFile<'a>], name: &'a Name) -> Option<LibFile<'a>>
+    requires { length files.now ≡ length libs.now.rec.now.libs }
+    ensures { MatchOption result (is_declared (lib_names libs.now.rec.now.libs) name.now ≡ false)
+        (λ f. WhereFiles libs.now.rec.now files.now (λ setting world.
+        lib_object face_or_flaw setting world libs.now.rec.now name.now ≡ Some (object_of f))) }
 {
-    match place_of(rec.libs.as_slice(), name) {
+    match libs.place(name) {
         Some(place) => Some(files[place]),
         None => None,
     }
-}
-
-/// The number of the library of this name.
-fn place_of(libs: &[RecLib], name: &Name) -> Option<usize>
-    ensures { result ≡ position (λ lib. bytes_eq lib.name name.now) libs.now }
-{
-    libs.iter()
-        .position(|lib| lib.name.as_bytes() == name.as_bytes())
 }
 
 fn unmet(alloc: Global, lib: &RecLib, ask: &Ask) -> Result<Difference, NoMemory>

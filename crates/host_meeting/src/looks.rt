@@ -1,28 +1,26 @@
 //! Whether looks find in the files of a host what is recorded.
 
-ghost use Rattle.std.specs.Prelude.{◌≡◌, ◌<◌, IfOk, Some, length, map, slice_get};
+ghost use Rattle.std.specs.Prelude.{◌≡◌, ◌<◌, IfOk, Some, length, map};
 ghost use Rattle.std.specs.List.{AllByRecursion};
-ghost use Rattle.std.specs.Option.{option_and_then, option_copied};
+ghost use Rattle.std.specs.Option.{option_copied};
 ghost use Rattle.answers.specs.First.{first_some};
-ghost use Rattle.load_model.specs.Bindings.{offered_by};
 ghost use Rattle.load_model.specs.Faces.{face_or_flaw};
-ghost use Rattle.load_model.specs.Offers.{offer_of};
-ghost use Rattle.load_model.specs.Opening.{IsFew};
 ghost use Rattle.host_list.specs.Answers.{answer_in_face, answer_of, class_of};
 ghost use Rattle.host_list.specs.Meeting.{is_answer, look_difference};
 ghost use Rattle.host_record.specs.Canonical.{IsLookOver};
 ghost use Rattle.host_meeting.specs.Files.{WhereFiles};
 
 use crate::files::LibFile;
+use crate::named::{NamedFile, named_files};
 use host_list::{Answer, Difference, Look, Record};
-use load_model::{Class, Face, Name, NoMemory, Offers, Sym, Ver};
+use load_model::{Class, Name, NoMemory, Sym, Ver};
 use std::alloc::Global;
 
 /// The first look that finds another answer than is recorded.
-pub fn look_difference(
+pub fn look_difference<'a>(
     alloc: Global,
-    rec: &Record,
-    files: &[LibFile<'_>],
+    rec: &'a Record,
+    files: &[LibFile<'a>],
 ) -> Result<Option<Difference>, NoMemory>
     requires over { AllByRecursion (IsLookOver rec.now.libs) rec.now.looks }
     requires files { length files.now ≡ length rec.now.libs }
@@ -30,8 +28,24 @@ pub fn look_difference(
         ≡ first_some (map (look_difference face_or_flaw setting world rec.now)
         rec.now.looks))) }
 {
+    let named = named_files(alloc, files)?;
+    first_other(alloc, rec, named.as_slice())
+}
+
+/// The first look that finds another answer in these files.
+fn first_other<'a>(
+    alloc: Global,
+    rec: &'a Record,
+    named: &[NamedFile<'a>],
+) -> Result<Option<Difference>, NoMemory>
+    requires over { AllByRecursion (IsLookOver rec.now.libs) rec.now.looks }
+    requires files { length named.now ≡ length rec.now.libs }
+    ensures { IfOk result (λ found. WhereFiles rec.now (map (λ n. n.file) named.now)
+        (λ setting world. found ≡ first_some
+        (map (look_difference face_or_flaw setting world rec.now) rec.now.looks))) }
+{
     for look in rec.looks.as_slice() {
-        if let Some(difference) = other_answer(alloc, rec, files, look)? {
+        if let Some(difference) = other_answer(alloc, rec, named, look)? {
             return Ok(Some(difference));
         }
     }
@@ -39,18 +53,18 @@ pub fn look_difference(
 }
 
 /// Whether a look finds another answer than is recorded.
-fn other_answer(
+fn other_answer<'a>(
     alloc: Global,
-    rec: &Record,
-    files: &[LibFile<'_>],
-    look: &Look,
+    rec: &'a Record,
+    named: &[NamedFile<'a>],
+    look: &'a Look,
 ) -> Result<Option<Difference>, NoMemory>
     requires over { look.now.lib < length rec.now.libs }
-    requires files { length files.now ≡ length rec.now.libs }
-    ensures { IfOk result (λ found. WhereFiles rec.now files.now (λ setting world.
-        found ≡ look_difference face_or_flaw setting world rec.now look.now)) }
+    requires files { length named.now ≡ length rec.now.libs }
+    ensures { IfOk result (λ found. WhereFiles rec.now (map (λ n. n.file) named.now)
+        (λ setting world. found ≡ look_difference face_or_flaw setting world rec.now look.now)) }
 {
-    let answer = answer_in(alloc, files[look.lib as usize].face, look)?;
+    let answer = answer_in(alloc, &named[look.lib as usize], look)?;
     if is_answer(&look.answer, &answer) {
         return Ok(None);
     }
@@ -115,29 +129,23 @@ fn is_answer(recorded: &Answer, found: &Answer) -> bool
 
 /// What a look finds in a file.
 #[tactic(auto, unfolding(host_list::specs::Answers::answer_in_face))]
-fn answer_in(alloc: Global, face: &Face, look: &Look) -> Result<Answer, NoMemory>
-    requires { IsFew face.now }
-    ensures { IfOk result (λ answer. answer
-        ≡ answer_in_face face.now look.now.name look.now.version look.now.call) }
+fn answer_in<'a>(alloc: Global, named: &NamedFile<'a>, look: &'a Look) -> Result<Answer, NoMemory>
+    ensures { IfOk result (λ answer. answer ≡ answer_in_face named.now.file.face.now
+        look.now.name look.now.version look.now.call) }
 {
-    match symbol_in(face, look) {
+    let name = look.name.as_bytes();
+    match named.offer(name, wanted_version(look), class_of(look.call)) {
         Some(symbol) => answer_of(alloc, symbol),
         None => Ok(Answer::Nothing),
     }
 }
 
-/// The symbol that a look finds in a file.
-fn symbol_in<'a>(face: &'a Face, look: &Look) -> Option<&'a Sym>
-    requires { IsFew face.now }
-    ensures { option_copied result ≡ option_and_then (λ i. slice_get face.now.syms i)
-        (offer_of (offered_by face.now) look.now.name look.now.version (class_of look.now.call)) }
+/// The name of the version that a look asks for, if any.
+fn wanted_version(look: &Look) -> Option<&[u8]>
+    ensures { option_copied result ≡ look.now.version }
 {
-    let version = match &look.version {
+    match &look.version {
         Some(version) => Some(version.as_bytes()),
-        None => None,
-    };
-    match face.offer(look.name.as_bytes(), version, class_of(look.call)) {
-        Some(index) => face.syms.as_slice().get(index as usize),
         None => None,
     }
 }

@@ -112,11 +112,11 @@ fn verdict_on(
 }
 
 /// The first demand that the files do not meet that were found.
-fn difference_on(
+fn difference_on<'a>(
     alloc: Global,
-    rec: &Record,
-    faces: &[Face],
-    found: &[FoundLib],
+    rec: &'a Record,
+    faces: &'a [Face],
+    found: &'a [FoundLib],
 ) -> Result<Option<Difference>, NoMemory>
     requires whole { IsWhole rec.now }
     requires places { All (λ (f : FoundLib). f.face < length faces.now) found.now }
@@ -132,10 +132,10 @@ fn difference_on(
 }
 
 /// The first demand that these files do not meet, which are right one by one.
-fn difference_in(
+fn difference_in<'a>(
     alloc: Global,
-    rec: &Record,
-    files: &[LibFile<'_>],
+    rec: &'a Record,
+    files: &[LibFile<'a>],
 ) -> Result<Option<Difference>, NoMemory>
     requires whole { IsWhole rec.now }
     requires files { length files.now ≡ length rec.now.libs }

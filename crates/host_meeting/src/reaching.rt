@@ -1,31 +1,35 @@
 //! Which libraries a library reaches by recorded needs.
 
 ghost use Rattle.std.specs.Prelude.{◌≡◌, IfOk, OnOk, true, fold, map};
-ghost use Rattle.std.specs.List.{find};
-ghost use Rattle.std.specs.Option.{option_copied};
 ghost use Rattle.std.specs.Str.{bytes_eq};
 ghost use Rattle.indexmap.specs.IndexSet.{insert_key};
-ghost use Rattle.host_list.specs.Meeting.{recorded_needs};
 ghost use Rattle.host_record.specs.Said.{is_declared, lib_names, needs_declared};
 ghost use Rattle.host_meeting.specs.Reaching.{AreReached};
 
-use host_list::RecLib;
+use crate::lib_places::LibPlaces;
 use load_model::{Name, NoMemory};
 use std::alloc::Global;
 use text_sets::TextSet;
 
 /// The names that a library reaches, its own the first.
-pub fn reached_from(alloc: Global, libs: &[RecLib], from: &Name) -> Result<TextSet, NoMemory>
-    requires declared { needs_declared libs.now ≡ true }
-    requires from { is_declared (lib_names libs.now) from.now ≡ true }
-    ensures { IfOk result (λ reached. AreReached libs.now from.now reached) }
+///
+/// Goes once through the needs of each library that is reached, so at most through all needs of the
+/// record, with a look-up for each.
+pub fn reached_from<'a>(
+    alloc: Global,
+    libs: &LibPlaces<'a>,
+    from: &'a Name,
+) -> Result<TextSet, NoMemory>
+    requires declared { needs_declared libs.now.rec.now.libs ≡ true }
+    requires from { is_declared (lib_names libs.now.rec.now.libs) from.now ≡ true }
+    ensures { IfOk result (λ reached. AreReached libs.now.rec.now.libs from.now reached) }
 {
     let mut reached = TextSet::new(alloc);
     let mut names = Vec::new(alloc);
     reach(alloc, &mut reached, &mut names, from)?;
     let mut next = 0;
     'names: while next < names.len() {
-        let needs = needs_of(libs, names[next]);
+        let needs = libs.needs_of(names[next]);
         reach_all(alloc, &mut reached, &mut names, needs)?;
         next += 1;
     }
@@ -70,21 +74,4 @@ fn reach<'a>(
         Ok(()) => Ok(()),
         Err(_) => Err(NoMemory),
     }
-}
-
-/// The recorded needs of the library of this name.
-fn needs_of<'a>(libs: &'a [RecLib], name: &Name) -> &'a [Name]
-    ensures { result.now ≡ recorded_needs libs.now name.now }
-{
-    match lib_named(libs, name) {
-        Some(lib) => lib.needs.as_slice(),
-        None => &[],
-    }
-}
-
-fn lib_named<'a>(libs: &'a [RecLib], name: &Name) -> Option<&'a RecLib>
-    ensures { option_copied result ≡ find (λ lib. bytes_eq lib.name name.now) libs.now }
-{
-    libs.iter()
-        .find(|lib| lib.name.as_bytes() == name.as_bytes())
 }

@@ -6,7 +6,7 @@ use Rattle.host_meeting.proofs.asks.is_met.Goals as goal
 
 pub returns-in-None : goal.returns-in-None
 returns-in-None c setting world has =
-    let libs = c.args.rec.now.libs in
+    let libs = c.args.libs.now.rec.now.libs in
     let file = c.args.ask.now.file in
     let there : is_declared (lib_names libs) file ≡ true =
     reached_declared libs (length libs) file c.args.lib.now.name c.requires.declared c.requires.lib

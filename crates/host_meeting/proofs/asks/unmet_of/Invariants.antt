@@ -7,5 +7,5 @@ use Rattle.host_meeting.proofs.asks.unmet_of.Given as goal
 
 abbrev pub invariant-loop-ask : goal.invariant-loop-ask
 invariant-loop-ask l =
-    WhereFiles l.rec l.files (λ setting world. first_some (map (own_difference face_or_flaw setting world l.rec l.lib) (drop l.ask-index l.asks))
-    ≡ first_some (map (own_difference face_or_flaw setting world l.rec l.lib) l.asks))
+    WhereFiles l.libs.rec.now l.files (λ setting world. first_some (map (own_difference face_or_flaw setting world l.libs.rec.now l.lib) (drop l.ask-index l.asks))
+    ≡ first_some (map (own_difference face_or_flaw setting world l.libs.rec.now l.lib) l.asks))

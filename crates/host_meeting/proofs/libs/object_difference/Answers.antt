@@ -1,4 +1,4 @@
-use Rattle.std.proofs.Common.{◌≡◌, ◌∙◌, ◌∷◌, ◌||◌, [], sym, List, Option, Some, None}
+use Rattle.std.proofs.Common.{◌≡◌, ◌∙◌, ◌∷◌, ◌||◌, [], sym, Option, Some, None}
 use Rattle.std.specs.Option.{is_some, option_map}
 use Rattle.answers.specs.First.{first_some, some_where}
 use Rattle.load_model.specs.Faces.{face_or_flaw}

@@ -1,4 +1,4 @@
-use Rattle.std.proofs.Common.{◌≡◌, ◌∙◌, Some, ap, sym, length, map, arith}
+use Rattle.std.proofs.Common.{◌≡◌, ◌∙◌, Some, ap, sym, length, map}
 use Rattle.load_model.specs.Faces.{face_or_flaw}
 use Rattle.load_model.specs.World.{World}
 use Rattle.load_model.specs.declared.setting.Setting.{Setting}

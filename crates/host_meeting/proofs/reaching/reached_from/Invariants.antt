@@ -6,9 +6,9 @@ use Rattle.host_meeting.proofs.reaching.reached_from.Given as goal
 abbrev pub invariant-names : goal.invariant-names
 invariant-names l = record {
   view : l.reached ≡ map (λ name. name.now) l.names.items;
-  reaching : IsReaching l.libs l.from (map (λ name. name.now) l.names.items);
-  followed : AreFollowed l.libs (map (λ name. name.now) l.names.items) l.next;
+  reaching : IsReaching l.libs.rec.now.libs l.from (map (λ name. name.now) l.names.items);
+  followed : AreFollowed l.libs.rec.now.libs (map (λ name. name.now) l.names.items) l.next;
 }
 
 abbrev pub decreases-names : goal.decreases-names
-decreases-names l = length l.libs - l.next
+decreases-names l = length l.libs.rec.now.libs - l.next

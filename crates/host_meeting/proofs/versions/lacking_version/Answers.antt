@@ -1,4 +1,4 @@
-use Rattle.std.proofs.Common.{◌∙◌, ◌<◌, ap, sym, true, false, length, arith, not}
+use Rattle.std.proofs.Common.{◌∙◌, ap, sym, true, false, arith}
 use Rattle.answers.specs.First.{some_where}
 use Rattle.host_list.specs.declared.differences.Difference.TheVariants.{NoVersion}
 use Rattle.host_record.specs.declared.records.RecLib.{RecLib}
