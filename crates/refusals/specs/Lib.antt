@@ -1,4 +1,6 @@
+pub mod ConfigRefusal
 pub mod Damage
+pub mod Differences
 pub mod Fields
 pub mod FileRefusal
 pub mod FolderRefusal

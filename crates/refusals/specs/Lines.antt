@@ -1,6 +1,7 @@
 -- The lines that the program prints.
 use Rattle.std.specs.Prelude.{ℕ, List, [], ◌∷◌, ◌++◌, codes}
 use Rattle.std.specs.Fmt.{decimal}
+use Rattle.refusals.specs.ConfigRefusal.{config_evidence, config_number}
 use Rattle.refusals.specs.FileRefusal.{file_evidence, file_number}
 use Rattle.refusals.specs.FolderRefusal.{folder_evidence, folder_number}
 use Rattle.refusals.specs.LoadRefusal.{load_evidence, load_number}
@@ -8,7 +9,7 @@ use Rattle.refusals.specs.NameRefusal.{name_evidence, name_number}
 use Rattle.refusals.specs.RewriteRefusal.{rewrite_evidence, rewrite_number}
 use Rattle.refusals.specs.SplitRefusal.{split_evidence, split_number}
 use Rattle.refusals.specs.declared.refusal.Refusal.{Refusal}
-use Rattle.refusals.specs.declared.refusal.Refusal.TheVariants.{Load, Split, Names, Rewrite, Files, Folder}
+use Rattle.refusals.specs.declared.refusal.Refusal.TheVariants.{Config, Load, Split, Names, Rewrite, Files, Folder}
 
 -- The line for words of no shape.
 abbrev pub usage_text : List ℕ
@@ -17,6 +18,7 @@ usage_text =
 
 -- The number of a refusal, and what it says with its evidence.
 abbrev pub refusal_number : Refusal → ℕ
+refusal_number (Config refusal) = config_number refusal
 refusal_number (Load refusal) = load_number refusal
 refusal_number (Split refusal) = split_number refusal
 refusal_number (Names refusal) = name_number refusal
@@ -25,6 +27,7 @@ refusal_number (Files refusal) = file_number refusal
 refusal_number (Folder refusal) = folder_number refusal
 
 abbrev pub evidence : Refusal → List ℕ
+evidence (Config refusal) = config_evidence refusal
 evidence (Load refusal) = load_evidence refusal
 evidence (Split refusal) = split_evidence refusal
 evidence (Names refusal) = name_evidence refusal

@@ -1,7 +1,9 @@
 //! Why a command is refused, and the lines that the program prints.
 #![tactic(auto)]
 
+mod config_refusal;
 mod damage;
+mod differences;
 mod fields;
 mod file_refusal;
 mod folder_refusal;
@@ -13,6 +15,7 @@ mod rewrite_refusal;
 mod split_refusal;
 mod tables;
 
+pub use config_refusal::ConfigRefusal;
 pub use file_refusal::FileRefusal;
 pub use folder_refusal::FolderRefusal;
 pub use name_refusal::NameRefusal;

@@ -1,5 +1,21 @@
 //! The numbers of the refusals.
 
+pub const CONFIG_ABSENT: u8 = 1;
+
+pub const NOT_TOML: u8 = 2;
+
+pub const MISSING_KEY: u8 = 3;
+
+pub const WRONG_KIND: u8 = 4;
+
+pub const UNKNOWN_KEY: u8 = 5;
+
+pub const BAD_PATH: u8 = 6;
+
+pub const BAD_NAME: u8 = 7;
+
+pub const TWO_TARGETS: u8 = 8;
+
 pub const NO_ROOM: u8 = 9;
 
 pub const NO_PROGRAM: u8 = 10;
@@ -48,6 +64,8 @@ pub const NAME_CLASH: u8 = 31;
 
 pub const BAD_FILE_NAME: u8 = 32;
 
+pub const SOURCE_NOT_HOST: u8 = 33;
+
 pub const TABLE_OVERLAP: u8 = 34;
 
 pub const TOO_MANY_HEADERS: u8 = 35;
@@ -56,10 +74,34 @@ pub const TOO_LARGE: u8 = 36;
 
 pub const STRINGS_TOO_LONG: u8 = 37;
 
+pub const FILE_ABSENT: u8 = 38;
+
+pub const DESK_NOT_UTF8: u8 = 39;
+
+pub const DESK_LINE: u8 = 40;
+
+pub const NO_GROUP: u8 = 41;
+
+pub const TWO_GROUPS: u8 = 42;
+
+pub const TWO_KEYS: u8 = 43;
+
+pub const DESK_MISSING_KEY: u8 = 44;
+
+pub const EXEC_UNKNOWN: u8 = 45;
+
+pub const ICON_DIFFERS: u8 = 46;
+
 pub const TARGET_CLASH: u8 = 47;
 
 pub const TARGET_IN_LIB: u8 = 48;
 
 pub const NOT_EMPTY: u8 = 49;
+
+pub const RECORD_ABSENT: u8 = 50;
+
+pub const RECORD_LINE: u8 = 51;
+
+pub const HOST_FAILS: u8 = 52;
 
 pub const FILE_CHANGED: u8 = 56;

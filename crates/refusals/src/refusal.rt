@@ -4,6 +4,7 @@ ghost use Rattle.std.specs.Prelude.{◌≡◌, [], ◌∷◌, ◌++◌, IfOk, co
 ghost use Rattle.std.specs.Fmt.{decimal};
 ghost use Rattle.refusals.specs.Lines.{done_line, evidence, refusal_line, refusal_number, usage_text};
 
+use crate::config_refusal::{ConfigRefusal, config_evidence, config_number};
 use crate::file_refusal::{FileRefusal, file_evidence, file_number};
 use crate::folder_refusal::{FolderRefusal, folder_evidence, folder_number};
 use crate::load_refusal::{load_evidence, load_number};
@@ -17,6 +18,8 @@ use std::alloc::Global;
 /// Why a command is not done, with the evidence.
 #[derive(Drop)]
 pub enum Refusal {
+    /// There is no configuration that is understood.
+    Config(ConfigRefusal),
     /// A program has no load list.
     Load(LoadRefusal),
     /// A build has no split.
@@ -73,6 +76,7 @@ fn refusal_number(refusal: &Refusal) -> u8
     ensures { result ≡ refusal_number refusal.now }
 {
     match refusal {
+        Refusal::Config(refusal) => config_number(refusal),
         Refusal::Load(refusal) => load_number(refusal),
         Refusal::Split(refusal) => split_number(refusal),
         Refusal::Names(refusal) => name_number(refusal),
@@ -87,6 +91,7 @@ fn evidence(alloc: Global, refusal: &Refusal) -> Result<Text, NoMemory>
     ensures { IfOk result (λ text. text ≡ evidence refusal.now) }
 {
     match refusal {
+        Refusal::Config(refusal) => config_evidence(alloc, refusal),
         Refusal::Load(refusal) => load_evidence(alloc, refusal),
         Refusal::Split(refusal) => split_evidence(alloc, refusal),
         Refusal::Names(refusal) => name_evidence(alloc, refusal),

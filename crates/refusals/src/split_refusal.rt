@@ -3,14 +3,17 @@
 
 ghost use Rattle.std.specs.Prelude.{◌≡◌, [], ◌++◌, IfOk, codes};
 ghost use Rattle.load_model.specs.Escaping.{escaped};
+ghost use Rattle.refusals.specs.Differences.{difference_text};
 ghost use Rattle.refusals.specs.Fields.{with_field, with_fields};
 ghost use Rattle.refusals.specs.SplitRefusal.{split_evidence, split_number};
 
+use crate::differences::difference_text;
 use crate::fields::{with_field, with_fields};
 use crate::numbers::{
     HOST_ALIAS, HOST_NAME_CLASH, HOST_NEEDS_UNLISTED, HOST_RPATH, INTERPRETER_UNLISTED,
-    NO_INTERPRETER, PROGRAM_NEEDED, SPLIT_NEED,
+    NO_INTERPRETER, PROGRAM_NEEDED, SOURCE_NOT_HOST, SPLIT_NEED,
 };
+use host_list::Difference;
 use load_model::{Name, Text};
 use path_text::{Abs, NoMemory};
 use std::alloc::Global;
@@ -36,6 +39,8 @@ pub enum SplitRefusal {
     /// A need or a file of versions of a bundled library goes to two objects: its path, the name,
     /// and the paths of both objects.
     SplitNeed(Abs, Name, Abs, Abs),
+    /// The tree of the build does not meet the record of the build: where it differs.
+    SourceNotHost(Difference),
 }
 
 /// The number of a refusal.
@@ -51,6 +56,7 @@ pub fn split_number(refusal: &SplitRefusal) -> u8
         SplitRefusal::HostNeedsUnlisted(_, _) => HOST_NEEDS_UNLISTED,
         SplitRefusal::HostAlias(_, _) => HOST_ALIAS,
         SplitRefusal::SplitNeed(_, _, _, _) => SPLIT_NEED,
+        SplitRefusal::SourceNotHost(_) => SOURCE_NOT_HOST,
     }
 }
 
@@ -87,6 +93,7 @@ pub fn split_evidence(alloc: Global, refusal: &SplitRefusal) -> Result<Text, NoM
         SplitRefusal::SplitNeed(path, name, one, other) => {
             split_need(alloc, path, name, one, other)
         }
+        SplitRefusal::SourceNotHost(difference) => no_host(alloc, difference),
     }
 }
 
@@ -127,4 +134,14 @@ fn split_need(
     let objects = with_fields(alloc, b" as ", one, b" and ", other.as_str().as_bytes())?;
     let end = with_field(alloc, b" needs ", name.as_bytes(), objects.as_bytes())?;
     with_field(alloc, b"", path.as_str().as_bytes(), end.as_bytes())
+}
+
+fn no_host(alloc: Global, difference: &Difference) -> Result<Text, NoMemory>
+    ensures { IfOk result
+        (λ text. text ≡ split_evidence (SplitRefusal.SourceNotHost difference.now)) }
+{
+    let difference = difference_text(alloc, difference)?;
+    let mut text = Vec::from_slice(alloc, b"source is no host: ")?;
+    text.extend_from_slice(difference.as_bytes())?;
+    Ok(Text::from_vec(text))
 }

@@ -11,6 +11,7 @@ use toml::Value;
 pub struct Evidence<'a> {
     texts: &'a [Value],
     numbers: &'a [Value],
+    difference: Option<&'a str>,
 }
 
 impl<'a> Evidence<'a> {
@@ -18,6 +19,7 @@ impl<'a> Evidence<'a> {
         Ok(Evidence {
             texts: row.list("texts")?,
             numbers: row.list("numbers")?,
+            difference: row.text_if_any("difference")?,
         })
     }
 
@@ -42,6 +44,15 @@ impl<'a> Evidence<'a> {
         Ok(Name::from_bytes(alloc, self.text(index)?.as_bytes())?)
     }
 
+    /// The text with this index as a name, where there are so many texts.
+    pub fn name_if_any(&self, alloc: Global, index: usize) -> Result<Option<Name>, Fault> {
+        if index < self.texts.len() {
+            Ok(Some(self.name(alloc, index)?))
+        } else {
+            Ok(None)
+        }
+    }
+
     /// The number with this index, from 0 to 2 ^ 63 - 1.
     pub fn number(&self, index: usize) -> Result<u64, Fault> {
         match self.numbers.get(index) {
@@ -58,7 +69,24 @@ impl<'a> Evidence<'a> {
         }
     }
 
-    fn text(&self, index: usize) -> Result<&'a str, Fault> {
+    /// The number with this index, where it is below 2 ^ 32.
+    pub fn word(&self, index: usize) -> Result<u32, Fault> {
+        match u32::try_from(self.number(index)?) {
+            Ok(number) => Ok(number),
+            Err(_) => Err(Fault::Field("number below 2 ^ 32")),
+        }
+    }
+
+    /// The name of the difference between a host and a record.
+    pub fn difference(&self) -> Result<&'a str, Fault> {
+        match self.difference {
+            Some(name) => Ok(name),
+            None => Err(Fault::Field("difference")),
+        }
+    }
+
+    /// The text with this index, as it is.
+    pub fn text(&self, index: usize) -> Result<&'a str, Fault> {
         match self.texts.get(index) {
             Some(text) => text_of(text),
             None => Err(Fault::Field("number of texts")),

@@ -2,7 +2,9 @@
 //! other than its row wants.
 #![tactic(auto)]
 
+mod differing;
 mod evidence;
+mod files;
 mod listing;
 mod reading;
 
@@ -77,7 +79,7 @@ fn name_of<'a>(row: &'a Value, field: &str) -> &'a str {
 
 /// The line of a refusal that is to have another.
 fn differing_line(alloc: Global, value: &Value) -> Result<Option<Text>, Fault> {
-    let row = Row::of(value, &["kind", "texts", "numbers", "line"])?;
+    let row = Row::of(value, &["kind", "difference", "texts", "numbers", "line"])?;
     let wanted = row.text("line")?;
     let line = line_of(alloc, &row)?;
     if line.as_bytes().strip_suffix(b"\n") == Some(wanted.as_bytes()) {

@@ -1,13 +1,24 @@
 //! The refusal of a row, by its name and its evidence.
 
+use crate::differing::difference_of;
 use crate::evidence::Evidence;
+use crate::files::{file_of, folder_of};
 use case_rows::Fault;
+use load_model::Name;
 use path_text::Abs;
-use refusals::{FileRefusal, FolderRefusal, NameRefusal, Refusal, RewriteRefusal, SplitRefusal};
+use refusals::{ConfigRefusal, NameRefusal, Refusal, RewriteRefusal, SplitRefusal};
 use std::alloc::Global;
 
 /// The refusal with this name.
 pub fn refusal_of(alloc: Global, kind: &str, evidence: &Evidence<'_>) -> Result<Refusal, Fault> {
+    match config_of(alloc, kind, evidence)? {
+        Some(refusal) => Ok(Refusal::Config(refusal)),
+        None => read_of(alloc, kind, evidence),
+    }
+}
+
+/// One that comes after the configuration.
+fn read_of(alloc: Global, kind: &str, evidence: &Evidence<'_>) -> Result<Refusal, Fault> {
     match split_of(alloc, kind, evidence)? {
         Some(refusal) => Ok(Refusal::Split(refusal)),
         None => later_of(alloc, kind, evidence),
@@ -30,6 +41,37 @@ fn last_of(alloc: Global, kind: &str, evidence: &Evidence<'_>) -> Result<Refusal
     }
 }
 
+fn config_of(
+    alloc: Global,
+    kind: &str,
+    evidence: &Evidence<'_>,
+) -> Result<Option<ConfigRefusal>, Fault> {
+    match kind {
+        "ConfigAbsent" => Ok(Some(ConfigRefusal::ConfigAbsent(evidence.path(alloc, 0)?))),
+        "NotToml" => Ok(Some(ConfigRefusal::NotToml)),
+        "BadName" => bad_name(alloc, evidence),
+        "MissingKey" | "WrongKind" | "UnknownKey" | "BadPath" | "TwoTargets" => {
+            Ok(Some(of_a_key(kind, evidence.name(alloc, 0)?)))
+        }
+        _ => Ok(None),
+    }
+}
+
+/// A refusal of a key alone, or of a place.
+fn of_a_key(kind: &str, key: Name) -> ConfigRefusal {
+    match kind {
+        "MissingKey" => ConfigRefusal::MissingKey(key),
+        "WrongKind" => ConfigRefusal::WrongKind(key),
+        "UnknownKey" => ConfigRefusal::UnknownKey(key),
+        "BadPath" => ConfigRefusal::BadPath(key),
+        _ => ConfigRefusal::TwoTargets(key),
+    }
+}
+
+fn bad_name(alloc: Global, evidence: &Evidence<'_>) -> Result<Option<ConfigRefusal>, Fault> {
+    Ok(Some(ConfigRefusal::BadName(evidence.name(alloc, 0)?, evidence.name(alloc, 1)?)))
+}
+
 fn split_of(
     alloc: Global,
     kind: &str,
@@ -42,6 +84,7 @@ fn split_of(
         "HostNeedsUnlisted" | "HostAlias" => of_a_need(alloc, kind, evidence),
         "HostNameClash" => host_name_clash(alloc, evidence),
         "SplitNeed" => split_need(alloc, evidence),
+        "SourceNotHost" => source_not_host(alloc, evidence),
         _ => Ok(None),
     }
 }
@@ -85,6 +128,11 @@ fn split_need(alloc: Global, evidence: &Evidence<'_>) -> Result<Option<SplitRefu
         evidence.path(alloc, 2)?,
         evidence.path(alloc, 3)?,
     )))
+}
+
+fn source_not_host(alloc: Global, evidence: &Evidence<'_>) -> Result<Option<SplitRefusal>, Fault> {
+    let difference = difference_of(alloc, evidence.difference()?, evidence)?;
+    Ok(Some(SplitRefusal::SourceNotHost(difference)))
 }
 
 fn name_of(
@@ -152,11 +200,8 @@ fn too_large(alloc: Global, evidence: &Evidence<'_>) -> Result<Option<RewriteRef
 
 /// A refusal of files or of a folder.
 fn other_of(alloc: Global, kind: &str, evidence: &Evidence<'_>) -> Result<Refusal, Fault> {
-    match kind {
-        "TargetClash" => Ok(Refusal::Files(FileRefusal::TargetClash(evidence.target(alloc, 0)?))),
-        "TargetInLib" => Ok(Refusal::Files(FileRefusal::TargetInLib(evidence.target(alloc, 0)?))),
-        "NotEmpty" => Ok(Refusal::Folder(FolderRefusal::NotEmpty(evidence.path(alloc, 0)?))),
-        "FileChanged" => Ok(Refusal::Folder(FolderRefusal::FileChanged(evidence.path(alloc, 0)?))),
-        _ => Err(Fault::Field("refusal")),
+    match file_of(alloc, kind, evidence)? {
+        Some(refusal) => Ok(Refusal::Files(refusal)),
+        None => Ok(Refusal::Folder(folder_of(alloc, kind, evidence)?)),
     }
 }
