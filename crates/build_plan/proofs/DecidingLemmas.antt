@@ -15,7 +15,7 @@ use Rattle.load_model.specs.declared.runs.Run.{Run}
 use Rattle.path_text.specs.FileName.{IsFileName}
 use Rattle.ports.specs.View.{View}
 use Rattle.refusals.specs.declared.refusal.Refusal.{Refusal}
-use Rattle.refusals.specs.declared.refusal.Refusal.TheVariants.{Load, Split, Names, Rewrite, Files, Folder}
+use Rattle.refusals.specs.declared.refusal.Refusal.TheVariants.{Config as RefusesConfig, Load, Split, Names, Rewrite, Files, Folder}
 use Rattle.build_plan.specs.Building.{AreRunsOf, starts_of}
 use Rattle.build_plan.specs.Deciding.{AreLoadsSafe, Decides, IsPlanned, IsRefusedPlan, IsUndecided, OpensFileNames}
 use Rattle.build_plan.specs.Refusals.{stop_of_loads}
@@ -25,6 +25,7 @@ use Rattle.build_plan.specs.declared.stops.BuildStop.{BuildStop}
 use Rattle.build_plan.specs.declared.stops.BuildStop.TheVariants.{Refused, Read, NoMemory}
 
 undecided : (world : World) (config : Config) (loads : LoadedRuns) (refusal : Refusal) → AreRunsOf world config loads.table.faces loads.runs → IsRefusedPlan config loads refusal → IsUndecided world config refusal
+undecided world config loads (RefusesConfig refusal) runs h = absurd h
 undecided world config loads (Load refusal) runs h = absurd h
 undecided world config loads (Split refusal) runs h = record { faces = loads.table.faces; runs = loads.runs; loads = runs; are_such = h }
 undecided world config loads (Names refusal) runs h = record { faces = loads.table.faces; runs = loads.runs; loads = runs; are_such = h }

@@ -15,7 +15,7 @@ use Rattle.name_layout.specs.Layouts.{first_name_stop}
 use Rattle.name_layout.specs.declared.stops.NameStop.{NameStop}
 use Rattle.path_text.specs.FileName.{IsFileName}
 use Rattle.refusals.specs.declared.refusal.Refusal.{Refusal}
-use Rattle.refusals.specs.declared.refusal.Refusal.TheVariants.{Load, Split as RefusesSplit, Names, Rewrite, Files, Folder}
+use Rattle.refusals.specs.declared.refusal.Refusal.TheVariants.{Config as RefusesConfig, Load, Split as RefusesSplit, Names, Rewrite, Files, Folder}
 use Rattle.build_plan.specs.Building.{AreRunsOf, Building, IsBuilding, IsPlan, starts_of}
 use Rattle.build_plan.specs.Refusals.{stop_of_closure, stop_of_name}
 use Rattle.build_plan.specs.declared.plans.Plan.{Plan}
@@ -71,6 +71,7 @@ pub record OfRuns (world : World) (config : Config) (P : List Face → List Run 
 
 -- The refusals of loading, of the split and of the names, in this order; the others come later.
 abbrev pub IsUndecided : World → Config → Refusal → Type 0
+IsUndecided world config (RefusesConfig refusal) = ⊥
 IsUndecided world config (Load refusal) =
     IsFirstStop config.setting world (starts_of config) refusal
 IsUndecided world config (RefusesSplit refusal) =
@@ -88,6 +89,7 @@ Decides world config (Err refusal) = IsUndecided world config refusal
 -- ---- what is loaded is split and named, or refused
 
 abbrev pub IsRefusedPlan : Config → LoadedRuns → Refusal → Type 0
+IsRefusedPlan config loads (RefusesConfig refusal) = ⊥
 IsRefusedPlan config loads (Load refusal) = ⊥
 IsRefusedPlan config loads (RefusesSplit refusal) =
     HasClash config.names (RefusesSplit refusal) loads.table.faces loads.runs

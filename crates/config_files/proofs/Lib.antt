@@ -1,0 +1,2 @@
+pub mod ConfiguringLemmas
+mod ReadingLemmas
