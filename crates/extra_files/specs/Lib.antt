@@ -1,0 +1,4 @@
+pub mod Copying
+pub mod Extras
+pub mod Faults
+pub mod Stems
