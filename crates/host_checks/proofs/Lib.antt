@@ -1,0 +1,4 @@
+pub mod OneLemmas
+pub mod PlaceLemmas
+pub mod RecordLemmas
+pub mod WholeLemmas
