@@ -4,20 +4,25 @@ use Rattle.std.proofs.lemmas.List.{take_all}
 use Rattle.std.proofs.lemmas.Bool.{cases_lt}
 use Rattle.app_config.specs.declared.config.Config.{Config}
 use Rattle.build_plan.specs.Building.{Building, IsBuilding, starts_of}
+use Rattle.build_plan.specs.Deciding.{HasClash, OfRuns}
 use Rattle.build_runs.proofs.LawLemmas.{at_most_one_build, runs_or_stop}
+use Rattle.build_texts.specs.Texts.{record_in}
+use Rattle.extra_files.proofs.LawLemmas.{one_extra_fault}
+use Rattle.host_list.specs.Meeting.{first_difference}
 use Rattle.lib_closure.specs.Splits.{split_of}
 use Rattle.lib_closure.specs.declared.splits.Member.{Member}
 use Rattle.lib_closure.specs.declared.splits.Split.{Split}
 use Rattle.lib_closure.proofs.ContainedLemmas.{is_there}
+use Rattle.load_model.specs.Faces.{face_or_flaw}
 use Rattle.load_model.specs.World.{World}
 use Rattle.load_model.specs.declared.faces.Face.{Face}
 use Rattle.load_model.specs.declared.runs.Run.{Run}
 use Rattle.name_layout.specs.Layouts.{AreNames, HasName, IsFirstFree, candidate_name, first_name_stop, given_names, is_free, member_key, opened_name}
 use Rattle.name_layout.specs.declared.layouts.Layout.{Layout}
 use Rattle.refusals.specs.declared.refusal.Refusal.{Refusal}
-use Rattle.refusals.specs.declared.refusal.Refusal.TheVariants.{Load, Split as RefusesSplit, Names, Rewrite, Files, Folder}
+use Rattle.refusals.specs.declared.refusal.Refusal.TheVariants.{Config as Configuration, Load, Split as RefusesSplit, Names, Rewrite, Files, Folder}
 use Rattle.appdir_build.specs.Objects.{first_unwritten}
-use Rattle.appdir_build.specs.Outcome.{Outcome, Package, listing_stop}
+use Rattle.appdir_build.specs.Outcome.{IsNoHost, Outcome, Package, SourceMeets, listing_stop}
 use Rattle.appdir_build.proofs.FirstLemmas.{one_more}
 
 -- ---- names
@@ -99,12 +104,22 @@ none_some o a e f = cc
 ok_err : {A E : Type 0} (r s : Result A E) (a : A) (x : E) → r ≡ Ok a → s ≡ Err x → r ≡ s → ⊥
 ok_err r s a x e f g = cc
 
-pub at_most_one_outcome : (world : World) (config : Config) (made : Package) (refusal : Refusal) → Outcome world config (Ok made) → Outcome world config (Err refusal) → ⊥
-at_most_one_outcome world config made (Load refusal) p r = runs_or_stop config.setting world (starts_of config) p.building.faces p.building.runs refusal p.builds.runs r
-at_most_one_outcome world config made (RefusesSplit refusal) p r =
+no_clash : (world : World) (config : Config) (made : Package) (refusal : Refusal) → Outcome world config (Ok made) → OfRuns world config (HasClash config.names refusal) → ⊥
+no_clash world config made refusal p r =
     let b = p.building in
     let same = at_most_one_build config.setting world (starts_of config) b.faces r.faces b.runs r.runs p.builds.runs r.loads in
     ok_err (split_of b.faces b.runs config.names) (split_of r.faces r.runs config.names) b.split r.are_such.clash p.builds.plan.split r.are_such.clashes (ap (λ f. split_of f b.runs config.names) same.0 ∙ ap (λ t. split_of r.faces t config.names) same.1)
+
+is_host : (world : World) (config : Config) (made : Package) (refusal : Refusal) → Outcome world config (Ok made) → IsNoHost world config refusal → ⊥
+is_host world config made refusal p r =
+    none_some (first_difference face_or_flaw config.setting world (record_in r.building)) r.difference
+    (subst (SourceMeets world config) (one_building world config p.building r.building p.builds r.builds) p.meets) r.differs
+
+pub at_most_one_outcome : (world : World) (config : Config) (made : Package) (refusal : Refusal) → Outcome world config (Ok made) → Outcome world config (Err refusal) → ⊥
+at_most_one_outcome world config made (Configuration refusal) p r = r
+at_most_one_outcome world config made (Load refusal) p r = runs_or_stop config.setting world (starts_of config) p.building.faces p.building.runs refusal p.builds.runs r
+at_most_one_outcome world config made (RefusesSplit refusal) p r =
+    elim r [ inl clash ↦ no_clash world config made (RefusesSplit refusal) p clash | inr none ↦ is_host world config made (RefusesSplit refusal) p none ]
 at_most_one_outcome world config made (Names refusal) p r =
     let b = p.building in
     let such = r.are_such in
@@ -115,5 +130,8 @@ at_most_one_outcome world config made (Names refusal) p r =
 at_most_one_outcome world config made (Rewrite refusal) p r =
     none_some (first_unwritten world r.building) _ (subst (λ b. first_unwritten world b ≡ None) (one_building world config p.building r.building p.builds r.builds) p.written) r.stops
 at_most_one_outcome world config made (Files refusal) p r =
-    none_some (listing_stop world config r.building) r.stop (subst (λ b. listing_stop world config b ≡ None) (one_building world config p.building r.building p.builds r.builds) p.listed) r.stops
+    elim r [
+      | inl faulty ↦ none_some (Some refusal) refusal (one_extra_fault world config (Some refusal) None faulty.faulty p.furnished) refl
+      | inr none ↦ none_some (listing_stop world config none.building) none.stop (subst (λ b. listing_stop world config b ≡ None) (one_building world config p.building none.building p.builds none.builds) p.listed) none.stops
+    ]
 at_most_one_outcome world config made (Folder refusal) p r = r

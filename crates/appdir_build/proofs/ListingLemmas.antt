@@ -1,15 +1,15 @@
 -- Items and files of one path, mark and length each: they have one list of lines and one stop.
-use Rattle.std.proofs.Common.{◌≡◌, ◌∙◌, sym, ap, refl, ℕ, ◌-◌, arith, List, [], ◌∷◌, ◌++◌, ◌||◌, Bool, Option, None, codes, drop, length, map, take}
+use Rattle.std.proofs.Common.{◌≡◌, ◌∙◌, sym, ap, refl, ℕ, zero, suc, ◌-◌, List, [], ◌∷◌, ◌++◌, ◌||◌, Bool, Option, None, Some, codes, drop, length, map, take}
 use Rattle.std.specs.Fmt.{decimal}
 use Rattle.std.specs.List.{flat_map, list_any, slice_range}
 use Rattle.answers.specs.First.{first_some, some_where}
-use Rattle.appdir_files.specs.Listing.{clash_stop, first_clash_stop, first_lib_stop, list_stop, paths_clash}
+use Rattle.appdir_files.specs.Listing.{clash_stop, first_clash_stop, first_lib_stop, is_in_lib, lib_stop, list_stop, paths_clash}
 use Rattle.appdir_files.specs.Writing.{AreFilesOf, IsBytesOf, IsFileOf}
 use Rattle.appdir_files.specs.declared.items.Body.{Body}
 use Rattle.appdir_files.specs.declared.items.Body.TheVariants.{Bytes, Copy}
 use Rattle.appdir_files.specs.declared.items.Item.{Item}
 use Rattle.appdir_files.specs.declared.stops.ListStop.{ListStop}
-use Rattle.appdir_files.specs.declared.stops.ListStop.TheVariants.{TargetClash}
+use Rattle.appdir_files.specs.declared.stops.ListStop.TheVariants.{TargetClash, TargetInLib}
 use Rattle.load_model.specs.Escaping.{escaped}
 use Rattle.load_model.specs.World.{World}
 use Rattle.manifest.specs.Manifest.{item_line, length_of, manifest_of, mark_of}
@@ -88,14 +88,47 @@ clashes_same before others (x ∷ items) (y ∷ more) h e =
     ap (λ o. first_some (o ∷ first_clash_stop (before ++ x ∷ []) items ∷ [])) (clash_same before others x y h parts.0)
     ∙ ap (λ o. first_some (clash_stop others y ∷ o ∷ [])) (clashes_same (before ++ (x ∷ [])) (others ++ (y ∷ [])) items more (behind before others x y h parts.0) parts.1)
 
-nothing_between : (items : List Item) (k : ℕ) → slice_range items k k ≡ []
-nothing_between items k = let none : k - k ≡ 0 = omega arith in ap (λ n. take n (drop k items)) none
+-- ---- data files
 
-no_data : (items : List Item) (k : ℕ) → list_stop items k k ≡ first_some (None ∷ first_clash_stop [] items ∷ [])
-unfolding list_stop first_lib_stop
-no_data items k = ap (λ data_items. first_some (first_lib_stop data_items ∷ first_clash_stop [] items ∷ [])) (nothing_between items k)
+abbrev pub lib_by : List ℕ → Option ListStop
+lib_by path = some_where (is_in_lib path) (TargetInLib path)
 
--- Without data the stop goes by paths alone.
-pub stops_same : (items more : List Item) (k n : ℕ) → map item_path items ≡ map item_path more → list_stop items k k ≡ list_stop more n n
-stops_same items more k n e =
-    no_data items k ∙ (ap (λ o. first_some (None ∷ o ∷ [])) (clashes_same [] [] items more refl e) ∙ sym (no_data more n))
+first_next : {A : Type 0} (o : Option A) (xs ys : List (Option A)) → first_some xs ≡ first_some ys → first_some (o ∷ xs) ≡ first_some (o ∷ ys)
+first_next None xs ys h = h
+first_next (Some a) xs ys h = refl
+
+libs_same : (items more : List Item) → map item_path items ≡ map item_path more → first_some (map lib_stop items) ≡ first_some (map lib_stop more)
+libs_same [] [] h = refl
+libs_same [] (y ∷ more) h = cc
+libs_same (x ∷ items) [] h = cc
+libs_same (x ∷ items) (y ∷ more) h =
+    let parts = head_same x.path y.path (map item_path items) (map item_path more) h in
+    ap (λ p. first_some (lib_by p ∷ map lib_stop items)) parts.0
+    ∙ first_next (lib_stop y) (map lib_stop items) (map lib_stop more) (libs_same items more parts.1)
+
+first_libs_same : (items more : List Item) → map item_path items ≡ map item_path more → first_lib_stop items ≡ first_lib_stop more
+unfolding first_lib_stop
+first_libs_same items more h = libs_same items more h
+
+drops_same : (n : ℕ) (items more : List Item) → map item_path items ≡ map item_path more → map item_path (drop n items) ≡ map item_path (drop n more)
+drops_same zero items more h = h
+drops_same (suc n) [] [] h = refl
+drops_same (suc n) [] (y ∷ more) h = cc
+drops_same (suc n) (x ∷ items) [] h = cc
+drops_same (suc n) (x ∷ items) (y ∷ more) h = drops_same n items more (head_same x.path y.path (map item_path items) (map item_path more) h).1
+
+takes_same : (n : ℕ) (items more : List Item) → map item_path items ≡ map item_path more → map item_path (take n items) ≡ map item_path (take n more)
+takes_same zero items more h = refl
+takes_same (suc n) [] [] h = refl
+takes_same (suc n) [] (y ∷ more) h = cc
+takes_same (suc n) (x ∷ items) [] h = cc
+takes_same (suc n) (x ∷ items) (y ∷ more) h =
+    let parts = head_same x.path y.path (map item_path items) (map item_path more) h in
+    ap (λ p. p ∷ map item_path (take n items)) parts.0 ∙ ap (λ t. y.path ∷ t) (takes_same n items more parts.1)
+
+-- The stop goes by paths alone.
+pub stops_same : (items more : List Item) (from to : ℕ) → map item_path items ≡ map item_path more → list_stop items from to ≡ list_stop more from to
+unfolding list_stop
+stops_same items more from to e =
+    ap (λ o. first_some (o ∷ first_clash_stop [] items ∷ [])) (first_libs_same (slice_range items from to) (slice_range more from to) (takes_same (to - from) (drop from items) (drop from more) (drops_same from items more e)))
+    ∙ ap (λ o. first_some (first_lib_stop (slice_range more from to) ∷ o ∷ [])) (clashes_same [] [] items more refl e)

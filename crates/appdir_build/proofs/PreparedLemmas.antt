@@ -3,7 +3,8 @@ use Rattle.std.proofs.Common.{◌≡◌, ◌∙◌, sym, ap, refl, subst, ℕ, �
 use Rattle.std.specs.Prelude.{IfOk}
 use Rattle.std.proofs.lemmas.Option.{slice_get_read, slice_get_within}
 use Rattle.object_changes.specs.Changing.{changes_of}
-use Rattle.std.specs.List.{AllZip, list_all}
+use Rattle.std.proofs.lemmas.List.Elements.{All-head, All-tail}
+use Rattle.std.specs.List.{AllZip, cons_option, filter_map, list_all}
 use Rattle.std.proofs.lemmas.Bool.{and_parts}
 use Rattle.app_config.specs.declared.config.Config.{Config}
 use Rattle.build_plan.specs.Building.{IsBuilding, start_of, starts_of}
@@ -14,11 +15,12 @@ use Rattle.build_runs.proofs.FileLemmas.{file_of_object}
 use Rattle.build_runs.proofs.ZipLemmas.{zip_right}
 use Rattle.elf_rewrite.specs.declared.change.Change.{Change}
 use Rattle.elf_rewrite.specs.NewFile.{is_name_text}
+use Rattle.build_texts.specs.Places.{program_places, tool_place}
 use Rattle.lib_closure.specs.Objects.{Occurrence, occurrence_at, programs_of}
-use Rattle.lib_closure.specs.SplitLaws.{StandsIn, StandsInRuns}
 use Rattle.lib_closure.specs.Splits.{member_of, parts_of_build}
-use Rattle.lib_closure.specs.declared.splits.Member.{Member}
 use Rattle.lib_closure.specs.declared.splits.Split.{Split}
+use Rattle.lib_closure.specs.SplitLaws.{StandsIn, StandsInRuns}
+use Rattle.lib_closure.specs.declared.splits.Member.{Member}
 use Rattle.lib_closure.proofs.ContainedLemmas.{at_place, is_there, place_of}
 use Rattle.lib_closure.proofs.PlacedLemmas.{standing_at}
 use Rattle.lib_closure.proofs.SplitLemmas.{members_stand, unclashed}
@@ -29,7 +31,7 @@ use Rattle.load_model.specs.declared.runs.Run.{Run}
 use Rattle.object_changes.specs.Fitting.{AreFitting, AreNameTexts, HasNameTexts}
 use Rattle.object_changes.specs.declared.changes.Changes.{Changes}
 use Rattle.tree_opener.specs.Names.{IsFaceFor}
-use Rattle.appdir_build.specs.Writing.{AreObjectsIn, IsFaced, IsPrepared, IsProgramAlone}
+use Rattle.appdir_build.specs.Writing.{AreObjectsIn, IsFaced, IsPrepared}
 
 -- ---- names
 
@@ -44,39 +46,43 @@ name_texts config plan safe h =
 pub runs_over : (config : Config) (plan : Plan) → IsSafePlan config plan → All (IsRunOver plan.loads.table.faces) plan.loads.runs
 runs_over config plan safe = zip_right (IsSafeRun plan.loads.table.faces) (IsRunOver plan.loads.table.faces) (λ program run is. is.over) (starts_of config) plan.loads.runs safe.safe.each
 
--- ---- one program
-
-one_run : {A B : Type 0} (R : A → B → Type 0) (x : A) (xs : List A) (ys : List B) → xs ≡ [] → AllZip R (x ∷ xs) ys → (y : B) × (ys ≡ y ∷ []) × R x y
-one_run R x [] [] e h = absurd h
-one_run R x [] (y ∷ []) e h = (y, refl, h.0)
-one_run R x [] (y ∷ z ∷ ys) e h = absurd h.1
-one_run R x (z ∷ xs) ys e h = cc
-
-one_placed : (faces : List Face) (run : Run) (o : Occurrence) → occurrence_at faces run 0 ≡ Some o → programs_of faces (run ∷ []) ≡ o ∷ []
-unfolding programs_of
-one_placed faces run o e = rw e refl
-
-programs_counted : (faces : List Face) (run : Run) → IsRunOver faces run → length (programs_of faces (run ∷ [])) ≡ 1
-programs_counted faces run over =
-    let x = is_there run.objs 0 over.program in
-    let p = standing_at faces run 0 x.it over x.is in
-    ap length (one_placed faces run p.it p.at)
+-- ---- programs
 
 length_mapped : {A B : Type 0} (f : A → B) (xs : List A) → length (map f xs) ≡ length xs
 length_mapped f [] = refl
 length_mapped f (x ∷ xs) = ap suc (length_mapped f xs)
 
+sides : {A B : Type 0} (R : A → B → Type 0) (xs : List A) (ys : List B) → AllZip R xs ys → length xs ≡ length ys
+sides R [] [] h = refl
+sides R [] (y ∷ ys) h = absurd h
+sides R (x ∷ xs) [] h = absurd h
+sides R (x ∷ xs) (y ∷ ys) h = ap suc (sides R xs ys h.1)
+
+programs_counted : (faces : List Face) (runs : List Run) → All (IsRunOver faces) runs → length (programs_of faces runs) ≡ length runs
+unfolding programs_of
+programs_counted faces [] over = refl
+programs_counted faces (run ∷ runs) over =
+    let first = All-head (IsRunOver faces) run runs over in
+    let x = is_there run.objs 0 first.program in
+    let p = standing_at faces run 0 x.it first x.is in
+    let others = filter_map (λ (r : Run). occurrence_at faces r 0) runs in
+    ap (λ (o : Option Occurrence). length (cons_option o others)) p.at
+    ∙ ap suc (programs_counted faces runs (All-tail (IsRunOver faces) run runs over))
+
 parts_counted : (faces : List Face) (runs : List Run) (names : List (List ℕ)) (split : Split) → parts_of_build faces runs names ≡ split → length split.programs ≡ length (programs_of faces runs)
 unfolding parts_of_build
 parts_counted faces runs names split e = ap (λ (s : Split). length s.programs) (sym e) ∙ length_mapped member_of (programs_of faces runs)
 
-pub one_program : (config : Config) (plan : Plan) → IsProgramAlone config → IsSafePlan config plan → length plan.split.programs ≡ 1
-one_program config plan alone safe =
+-- Each program of the split has a place.
+pub places_counted : (config : Config) (plan : Plan) → IsSafePlan config plan → length (program_places config) ≡ length plan.split.programs
+unfolding program_places
+places_counted config plan safe =
     let faces = plan.loads.table.faces in
-    let one = one_run (IsSafeRun faces) (start_of config.main) (map start_of config.tools) plan.loads.runs (ap (map start_of) alone.tools) safe.safe.each in
-    let u = unclashed faces plan.loads.runs config.names plan.split safe.plan.split in
-    parts_counted faces plan.loads.runs config.names plan.split u.parts
-    ∙ (ap (λ runs. length (programs_of faces runs)) one.1 ∙ programs_counted faces one.0 one.2.over)
+    let runs = plan.loads.runs in
+    let parts = (unclashed faces runs config.names plan.split safe.plan.split).parts in
+    ap suc (length_mapped tool_place config.tools ∙ sym (length_mapped start_of config.tools))
+    ∙ (sides (IsSafeRun faces) (starts_of config) runs safe.safe.each
+    ∙ (sym (programs_counted faces runs (runs_over config plan safe)) ∙ sym (parts_counted faces runs config.names plan.split parts)))
 
 -- ---- members and their files
 
@@ -92,43 +98,41 @@ lib_stands plan changes p i m h = (members_of plan changes p).libs m (at_place p
 pub program_stands : (plan : Plan) (changes : Changes) → IsPrepared plan changes → (i : ℕ) (m : Member) → slice_get plan.split.programs i ≡ Some m → StandsIn plan.loads.table.faces plan.loads.runs m.id m.path m.face
 program_stands plan changes p i m h = (members_of plan changes p).programs m (at_place plan.split.programs i m h)
 
-pub face_within : (faces others : List Face) (runs : List Run) (id path : List ℕ) (place : ℕ) → others ≡ faces → StandsIn faces runs id path place → place < length others
-face_within faces others runs id path place e stands = subst (λ l. place < length l) (sym e) (slice_get_within faces place stands.seen stands.seen_is)
-
 -- What stands at a number of the split: a member, its change and its face.
 pub record IsSeen (faces : List Face) (members : List Member) (changes : List Change) (number : ℕ) (member : Member) (change : Change) (face : Face) : Type 0 where
   pub member_is : slice_get members number ≡ Some member
   pub change_is : slice_get changes number ≡ Some change
   pub face_is : slice_get faces member.face ≡ Some face
 
-pub seen_at : (faces : List Face) (members : List Member) (changes : List Change) (number : ℕ) (member : Member) (change : Change) (face : Face) (ms : List Member) (cs : List Change) (fs : List Face) → length changes ≡ length members → number < length members → ms ≡ members → member ≡ get_or ms number member → cs ≡ changes → change ≡ get_or cs number change → member.face < length fs → fs ≡ faces → face ≡ get_or fs member.face face → IsSeen faces members changes number member change face
-seen_at faces members changes number member change face ms cs fs counts less e m f c within h i =
+is_read : {X : Type 0} (xs : List X) (i : ℕ) (x : X) → i < length xs → x ≡ get_or xs i x → slice_get xs i ≡ Some (get_or xs i x)
+is_read xs i x less e = subst (λ y. slice_get xs i ≡ Some y) e (at_index xs xs i x refl less e)
+
+-- What is read at a number stands there.
+pub seen_at : (faces : List Face) (members : List Member) (changes : List Change) (number : ℕ) (member : Member) (change : Change) (face : Face) → length changes ≡ length members → number < length members → member ≡ get_or members number member → change ≡ get_or changes number change → (get_or members number member).face < length faces → face ≡ get_or faces (get_or members number member).face face → IsSeen faces members changes number (get_or members number member) (get_or changes number change) (get_or faces (get_or members number member).face face)
+seen_at faces members changes number member change face counts less m c within f =
     record {
-      member_is = at_index members ms number member e less m;
-      change_is = at_index changes cs number change f (omega (arith, counts, less)) c;
-      face_is = at_index faces fs member.face face h (subst (λ l. member.face < length l) h within) i;
+      member_is = is_read members number member less m;
+      change_is = is_read changes number change (omega (arith, counts, less)) c;
+      face_is = is_read faces (get_or members number member).face face within f;
     }
 
-pub lib_within : (plan : Plan) (changes : Changes) (p : IsPrepared plan changes) (number : ℕ) (member : Member) (ms : List Member) (fs : List Face) → number < length plan.split.libs → ms ≡ plan.split.libs → member ≡ get_or ms number member → fs ≡ plan.loads.table.faces → member.face < length fs
-lib_within plan changes p number member ms fs less e m h =
-    face_within plan.loads.table.faces fs plan.loads.runs member.id member.path member.face h (lib_stands plan changes p number member (at_index plan.split.libs ms number member e less m))
+pub read_as : (xs : List (List ℕ)) (i : ℕ) (x text : List ℕ) → i < length xs → x ≡ get_or xs i x → text ≡ get_or xs i x → slice_get xs i ≡ Some text
+read_as xs i x text less e is = subst (λ y. slice_get xs i ≡ Some y) (sym is) (is_read xs i x less e)
 
-pub program_within : (plan : Plan) (changes : Changes) (p : IsPrepared plan changes) (member : Member) (ms : List Member) (fs : List Face) → ms ≡ plan.split.programs → member ≡ get_or ms 0 member → fs ≡ plan.loads.table.faces → member.face < length fs
-program_within plan changes p member ms fs e m h =
-    let one = p.one_program in
-    face_within plan.loads.table.faces fs plan.loads.runs member.id member.path member.face h (program_stands plan changes p 0 member (at_index plan.split.programs ms 0 member e (omega (arith, one)) m))
+-- The place of a member's face is that of one.
+pub seen_within : (plan : Plan) (member : Member) → StandsIn plan.loads.table.faces plan.loads.runs member.id member.path member.face → member.face < length plan.loads.table.faces
+seen_within plan member stands = slice_get_within plan.loads.table.faces member.face stands.seen stands.seen_is
 
-pub prepared : {E : Type 0} (config : Config) (plan : Plan) → IsProgramAlone config → IsSafePlan config plan → (fs : List Face) (rs : List Run) (result : Result Changes E) → fs ≡ plan.loads.table.faces → rs ≡ plan.loads.runs → IfOk result (λ changes. changes ≡ changes_of fs rs plan.split plan.layout) → IfOk result (λ changes. AreFitting fs plan.split changes) → IfOk result (λ changes. IsPrepared plan changes)
-prepared config plan alone safe fs rs (Ok changes) e f are fits =
+pub prepared : {E : Type 0} (config : Config) (plan : Plan) → IsSafePlan config plan → (fs : List Face) (rs : List Run) (result : Result Changes E) → fs ≡ plan.loads.table.faces → rs ≡ plan.loads.runs → IfOk result (λ changes. changes ≡ changes_of fs rs plan.split plan.layout) → IfOk result (λ changes. AreFitting fs plan.split changes) → IfOk result (λ changes. IsPrepared plan changes)
+prepared config plan safe fs rs (Ok changes) e f are fits =
     record {
       names = config.names;
       splits = safe.plan.split;
-      one_program = one_program config plan alone safe;
       named = safe.plan.layout.count;
       changes_are = are ∙ (ap (λ l. changes_of l rs plan.split plan.layout) e ∙ ap (λ l. changes_of plan.loads.table.faces l plan.split plan.layout) f);
       fits = subst (λ l. AreFitting l plan.split changes) e fits;
     }
-prepared config plan alone safe fs rs (Err stop) e f are fits = are
+prepared config plan safe fs rs (Err stop) e f are fits = are
 
 some_same : {X : Type 0} (o p : Option X) (a b : X) → o ≡ Some a → p ≡ Some b → o ≡ p → a ≡ b
 some_same o p a b e f g = cc

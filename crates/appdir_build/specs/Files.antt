@@ -1,35 +1,28 @@
 -- The files of a directory, in the order in which they are written: bundled libraries, tools, data,
 -- the icon and the desktop file, three texts about the build, and last the main program.
-use Rattle.std.specs.Prelude.{ℕ, List, [], ◌∷◌, ◌++◌, ◌+◌, Bool, true, false, Option, Some, None, codes, drop, length, map, take, zip}
+use Rattle.std.specs.Prelude.{ℕ, List, [], ◌∷◌, ◌++◌, ◌+◌, Bool, true, false, codes, drop, length, map, take, zip}
 use Rattle.app_config.specs.declared.config.Config.{Config}
-use Rattle.app_config.specs.declared.config.Data.{Data}
 use Rattle.appdir_files.specs.declared.items.Body.TheVariants.{Bytes}
 use Rattle.appdir_files.specs.declared.items.Item.{Item}
 use Rattle.elf_rewrite.specs.declared.change.Change.{Change}
+use Rattle.extra_files.specs.Extras.{data_files, extra_files, file_with}
+use Rattle.host_checks.specs.Hosting.{record_place}
 use Rattle.host_record.specs.Grammar.{record_text}
 use Rattle.lib_closure.specs.declared.splits.Member.{Member}
 use Rattle.load_model.specs.World.{World}
 use Rattle.manifest.specs.Manifest.{manifest_of}
-use Rattle.path_text.specs.Path.{base_of}
-use Rattle.ports.specs.Reading.{bytes_at}
 use Rattle.ports.specs.declared.folders.MemFile.{MemFile}
 use Rattle.build_plan.specs.Building.{Building}
 use Rattle.build_texts.specs.Places.{lib_place, program_places}
 use Rattle.build_texts.specs.Texts.{record_in, report_in}
 use Rattle.appdir_build.specs.Objects.{lib_objects, new_bytes_of, program_objects}
 
-abbrev pub file_with : Bool → List ℕ → List ℕ → MemFile
-file_with executable path bytes = record { path = path; executable = executable; bytes = bytes }
-
 -- A file as one that is to be written.
 abbrev pub as_item : MemFile → Item
 as_item file =
     record { path = file.path; executable = file.executable; body = Bytes file.bytes }
 
--- Where the texts about a build lie.
-abbrev pub record_place : List ℕ
-record_place = codes "usr/share/appdir/host.txt"
-
+-- Where the other texts about a build lie.
 abbrev pub report_place : List ℕ
 report_place = codes "usr/share/appdir/bindings.txt"
 
@@ -51,30 +44,6 @@ module _ (world : World) where
   unfoldable pub files_of_programs : Config → Building → List MemFile
   files_of_programs config b = map program_file (zip (program_places config) (program_objects b))
 
-  -- The main program, by the name that it has in the directory.
-  abbrev pub main_as : Building → List MemFile
-  main_as b = map (λ (o : Member × Change). program_file (codes "AppRun", o)) (program_objects b)
-
-  -- Copies of files of the world.
-  abbrev pub copy_at : List ℕ → List ℕ → MemFile
-  copy_at path source = file_with false path (bytes_at world source)
-
-  abbrev pub copied_data : Data → MemFile
-  copied_data data_file = copy_at data_file.to data_file.from
-
-  abbrev pub data_files : Config → List MemFile
-  data_files config = map copied_data config.files
-
-  -- The icon under its own name and as `.DirIcon`, and the desktop file under its own name
-  -- (AppDir).
-  abbrev pub icon_files : Option (List ℕ) → List MemFile
-  icon_files None = []
-  icon_files (Some icon) = copy_at (base_of icon) icon ∷ copy_at (codes ".DirIcon") icon ∷ []
-
-  abbrev pub desktop_files : Option (List ℕ) → List MemFile
-  desktop_files None = []
-  desktop_files (Some desktop) = copy_at (base_of desktop) desktop ∷ []
-
 module _ (world : World) (config : Config) (b : Building) where
   -- Texts about the build.
   abbrev pub record_file : MemFile
@@ -86,9 +55,7 @@ module _ (world : World) (config : Config) (b : Building) where
   -- What stands before them, and the main program.
   unfoldable pub front_files : List MemFile
   front_files =
-      lib_files world b ++ (drop 1 (files_of_programs world config b)
-      ++ (data_files world config
-      ++ (icon_files world config.icon ++ desktop_files world config.desktop)))
+      lib_files world b ++ (drop 1 (files_of_programs world config b) ++ extra_files world config)
 
   unfoldable pub main_file : List MemFile
   main_file = take 1 (files_of_programs world config b)

@@ -1,49 +1,66 @@
 //! The files of a directory, in the order in which they are written. Definitions:
 //! `specs/Files.antt`.
 
-ghost use Rattle.std.specs.Prelude.{◌≡◌, ◌∷◌, ◌++◌, [], List, IfOk, false, true, codes};
+ghost use Rattle.std.specs.Prelude.{◌≡◌, ◌∷◌, ◌++◌, [], List, IfOk, false};
 ghost use Rattle.appdir_files.specs.declared.items.Item.{Item};
-ghost use Rattle.build_texts.specs.Places.{lib_place};
-ghost use Rattle.appdir_build.specs.Files.{record_place, report_place};
-ghost use Rattle.appdir_build.specs.Writing.{all_items, listed_items, text_item};
+ghost use Rattle.host_checks.specs.Hosting.{record_place};
+ghost use Rattle.appdir_build.specs.Files.{report_place};
+ghost use Rattle.appdir_build.specs.Writing.{AreAllItems, all_items, listed_items, text_item};
 
 use crate::writing::Written;
 use appdir_files::{Body, Item};
-use build_texts::lib_place;
-use load_model::{List, Name, NoMemory, Text};
+use load_model::{List, NoMemory, Text};
 use manifest::manifest_text;
 use path_text::Rel;
 use std::alloc::Global;
 
-/// The file of a bundled library.
-pub fn lib_item(alloc: Global, name: &Name, body: Body) -> Result<Item, NoMemory>
-    ensures { IfOk result (λ item. item
-        ≡ record { path = lib_place name.now; executable = false; body = body }) }
-{
-    let place = lib_place(alloc, name)?;
-    item(alloc, place.as_bytes(), false, body)
-}
-
-/// The file of the main program.
-pub fn main_item(alloc: Global, body: Body) -> Result<Item, NoMemory>
-    ensures { IfOk result (λ item. item
-        ≡ record { path = codes "AppRun"; executable = true; body = body }) }
-{
-    item(alloc, b"AppRun", true, body)
-}
-
-/// All files, in order: those of the bundled libraries, three texts, and the main program. The
-/// manifest lists all but itself.
+/// All files, in order: bundled libraries, tools, what lies beside them, three texts, and the main
+/// program, which is the first of the programs. The manifest lists all but itself.
 pub fn all_items(
     alloc: Global,
     written: Written,
+    extras: List<Item>,
     record_bytes: Text,
     report: Text,
 ) -> Result<List<Item>, NoMemory>
-    ensures { IfOk result (λ items. items
-        ≡ all_items written.libs record_bytes report written.main) }
+    ensures { IfOk result (AreAllItems written extras record_bytes report) }
 {
-    let items = listed_items(alloc, written, record_bytes, report)?;
+    let Written { programs, libs } = written;
+    let mut tools = programs.into_vec();
+    if tools.is_empty() {
+        return Err(NoMemory);
+    }
+    let main = tools.remove(0);
+    let front = front_items(libs, tools, extras)?;
+    with_texts(alloc, front, record_bytes, report, main)
+}
+
+/// Libraries, tools, and what lies beside them.
+fn front_items(
+    libs: List<Item>,
+    mut tools: Vec<Item>,
+    extras: List<Item>,
+) -> Result<List<Item>, NoMemory>
+    ensures { IfOk result (λ items. items ≡ libs ++ (tools.items ++ extras)) }
+{
+    let mut items = libs.into_vec();
+    let mut extras = extras.into_vec();
+    tools.append(&mut extras)?;
+    items.append(&mut tools)?;
+    Ok(List::from_vec(items))
+}
+
+/// The files with the texts about the build.
+fn with_texts(
+    alloc: Global,
+    front: List<Item>,
+    record_bytes: Text,
+    report: Text,
+    main: Item,
+) -> Result<List<Item>, NoMemory>
+    ensures { IfOk result (λ items. items ≡ all_items front record_bytes report main) }
+{
+    let items = listed_items(alloc, front, record_bytes, report, main)?;
     let manifest = manifest_text(alloc, items.as_slice())?;
     let manifest = text_item(alloc, b"usr/share/appdir/files.txt", manifest)?;
     before_last(items, manifest)
@@ -52,15 +69,14 @@ pub fn all_items(
 /// The files that the manifest lists.
 fn listed_items(
     alloc: Global,
-    written: Written,
+    front: List<Item>,
     record_bytes: Text,
     report: Text,
+    main: Item,
 ) -> Result<List<Item>, NoMemory>
-    ensures { IfOk result (λ items. items
-        ≡ listed_items written.libs record_bytes report written.main) }
+    ensures { IfOk result (λ items. items ≡ listed_items front record_bytes report main) }
 {
-    let Written { libs, main } = written;
-    let mut items = libs;
+    let mut items = front;
     items.push(text_item(alloc, b"usr/share/appdir/host.txt", record_bytes)?)?;
     items.push(text_item(alloc, b"usr/share/appdir/bindings.txt", report)?)?;
     items.push(main)?;
@@ -89,7 +105,7 @@ fn text_item(alloc: Global, place: &[u8], text: Text) -> Result<Item, NoMemory>
 }
 
 /// A file at a place below the root.
-fn item(alloc: Global, place: &[u8], executable: bool, body: Body) -> Result<Item, NoMemory>
+pub fn item(alloc: Global, place: &[u8], executable: bool, body: Body) -> Result<Item, NoMemory>
     ensures { IfOk result (λ item. item
         ≡ record { path = place.now; executable = executable; body = body }) }
 {

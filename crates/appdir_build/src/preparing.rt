@@ -6,7 +6,7 @@ ghost use Rattle.std.specs.Str.{is_utf8};
 ghost use Rattle.path_text.specs.Path.{has_nul};
 ghost use Rattle.elf_rewrite.specs.NewFile.{is_name_text};
 ghost use Rattle.build_plan.specs.Deciding.{IsSafePlan};
-ghost use Rattle.appdir_build.specs.Writing.{IsPrepared, IsProgramAlone};
+ghost use Rattle.appdir_build.specs.Writing.{IsPrepared};
 
 use app_config::Config;
 use build_plan::Plan;
@@ -19,8 +19,7 @@ use std::alloc::Global;
 /// The changes of what is decided. Names that can stand in no string table are told as want of
 /// memory: keys and opened names of files with a face are no such names.
 pub fn changes_of(alloc: Global, config: &Config, plan: &Plan) -> Result<Changes, NoMemory>
-    requires alone { IsProgramAlone config.now }
-    requires safe { IsSafePlan config.now plan.now }
+    requires { IsSafePlan config.now plan.now }
     ensures { IfOk result (λ changes. IsPrepared plan.now changes) }
 {
     if !are_name_texts(&plan.split, &plan.layout) {

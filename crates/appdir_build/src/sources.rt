@@ -51,7 +51,8 @@ pub fn count_of(len: usize) -> Result<u32, NoMemory>
     }
 }
 
-fn sum_of(a: u32, b: u32) -> Result<u32, NoMemory>
+/// A sum, where it has one: more are want of memory.
+pub fn sum_of(a: u32, b: u32) -> Result<u32, NoMemory>
     ensures { IfOk result (λ sum. sum ≡ a + b) }
 {
     match a.checked_add(b) {

@@ -1,4 +1,4 @@
 mod CountLemmas
 mod PlaceLemmas
-mod RecordLemmas
+pub mod RecordLemmas
 mod ReplayLemmas

@@ -7,6 +7,6 @@ mod places;
 mod reports;
 mod texts;
 
-pub use places::lib_place;
+pub use places::{lib_place, program_places};
 pub use reports::Report;
-pub use texts::{record_text, report_of};
+pub use texts::{record_of_plan, report_of};

@@ -2,7 +2,7 @@
 //! Definitions: `specs/Texts.antt`.
 
 ghost use Rattle.std.specs.Prelude.{◌≡◌, All, IfOk, length, map};
-ghost use Rattle.host_record.specs.Grammar.{record_text};
+ghost use Rattle.host_record.specs.Canonical.{IsCanonical};
 ghost use Rattle.load_model.specs.Bindings.{IsBindOver, offered_by};
 ghost use Rattle.load_model.specs.Opening.{AreFew};
 ghost use Rattle.load_model.specs.Runs.{IsRunOver};
@@ -20,24 +20,25 @@ use build_plan::Plan;
 use build_runs::LoadedRuns;
 use hash_lookup::Tables;
 use host_list::record_of;
-use host_record::write_record;
-use load_model::{Face, List, Name, NoMemory, Replay, Run, Text};
+use host_record::Record;
+use load_model::{Face, List, Name, NoMemory, Replay, Run};
 use loader_replay::binds_of;
 use std::alloc::Global;
 
-/// What a build demands of a host, as a text.
-pub fn record_text(alloc: Global, config: &Config, plan: &Plan) -> Result<Text, NoMemory>
+/// What a build demands of a host.
+pub fn record_of_plan(alloc: Global, config: &Config, plan: &Plan) -> Result<Record, NoMemory>
     requires { IsSafePlan config.now plan.now }
-    ensures { IfOk result (λ text. text ≡ record_text (record_in (building_of plan.now))) }
+    ensures demands { IfOk result (λ made. made ≡ record_in (building_of plan.now)) }
+    // So it has a text.
+    ensures canonical { IfOk result IsCanonical }
 {
-    let record = record_of(
+    record_of(
         alloc,
         plan.loads.table.faces(),
         plan.loads.table.tables(),
         plan.loads.runs.as_slice(),
         &plan.split,
-    )?;
-    write_record(alloc, &record)
+    )
 }
 
 /// What the references of programs and bundled libraries bind to.

@@ -1,16 +1,6 @@
-use Rattle.std.proofs.Common.{◌∙◌, sym, ap, [], ◌∷◌, ◌++◌}
-use Rattle.manifest.specs.Manifest.{manifest_of}
-use Rattle.appdir_build.proofs.ItemLemmas.{ends, two_and}
-use Rattle.appdir_build.specs.Files.{manifest_place, record_place, report_place}
-use Rattle.appdir_build.specs.Writing.{listed_items, text_item}
+use Rattle.std.proofs.Common.{arith}
+use Rattle.appdir_build.proofs.ItemLemmas.{all_of}
 use Rattle.appdir_build.proofs.items.all_items.Goals as goal
 
 pub returns : goal.returns
-returns c =
-    let libs = c.args.written.libs in
-    let host = text_item record_place c.args.record_bytes in
-    let report = text_item report_place c.args.report in
-    let main = c.args.written.main in
-    ends libs host report c.in_ok-manifest-2.manifest (text_item manifest_place (manifest_of (listed_items libs c.args.record_bytes c.args.report main))) main c.before_last.result
-    (c.before_last.ensures (libs ++ (host ∷ report ∷ [])) main (c.in_ok-items.ensures ∙ sym (two_and libs host report (main ∷ []))))
-    (c.in_ok-manifest-2.ensures ∙ ap (text_item manifest_place) (c.in_ok-manifest.ensures ∙ ap manifest_of (c.as_slice.ensures ∙ c.in_ok-items.ensures)))
+returns c = all_of c.args.written c.args.extras c.in_ok-front.front c.args.record_bytes c.args.report c.remove-main.result c.into_vec-tools.result.items c.remove-main.new.self.items c.with_texts.result c.into_vec-tools.ensures (let size = c.remove-main.ensures.len in omega (arith, size)) c.remove-main.ensures.value c.remove-main.ensures.by_index.2 c.in_ok-front.ensures c.with_texts.ensures
