@@ -47,7 +47,7 @@ use Rattle.path_text.specs.FileName.{IsFileName}
 use Rattle.text_sets.proofs.FoundLemmas.{find_passes}
 use Rattle.text_sets.proofs.MappedLemmas.{find-position}
 use Rattle.build_laws.specs.BuiltRuns.{IsRunIn}
-use Rattle.build_laws.specs.Sources.{IsNameText}
+use Rattle.app_config.specs.Ready.{IsNameText}
 use Rattle.build_laws.specs.Renaming.{is_bundled_in, name_in}
 use Rattle.build_laws.proofs.LoadedLemmas.{asked_as, ids_differ, need_went, target_there, went}
 use Rattle.build_laws.proofs.RunInLemmas.{obj_here, run_there}

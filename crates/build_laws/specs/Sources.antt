@@ -1,6 +1,7 @@
 -- What must hold of the world and of the configuration that a build is made of, so that its programs
 -- run the same elsewhere.
-use Rattle.std.specs.Prelude.{ℕ, List, All, IsUtf8}
+use Rattle.std.specs.Prelude.{All}
+use Rattle.app_config.specs.Ready.{IsNameText}
 use Rattle.app_config.specs.declared.config.Config.{Config}
 use Rattle.app_config.specs.declared.config.Program.{Program}
 use Rattle.build_plan.specs.Building.{starts_of}
@@ -9,10 +10,6 @@ use Rattle.load_model.specs.Escaping.{AreBytes}
 use Rattle.load_model.specs.World.{IsWorld, World}
 use Rattle.load_model.specs.declared.world.WorldFile.{WorldFile}
 use Rattle.path_text.specs.FileName.{IsFileName}
-
--- A name that a file can be given, as a text.
-abbrev pub IsNameText : List ℕ → Type 0
-IsNameText name = IsFileName name × IsUtf8 name
 
 pub record IsSource (world : World) (config : Config) : Type 0 where
   -- so that objects of one identity are one file, and their paths are texts

@@ -8,7 +8,8 @@ use Rattle.std.proofs.lemmas.List.{length-map, map-append}
 use Rattle.std.proofs.lemmas.List.Folds.{list_any_none}
 use Rattle.std.proofs.lemmas.List.Elements.{All-nil, Contains-append_cases, Contains-append_left, Contains-append_right}
 use Rattle.app_config.specs.declared.config.Config.{Config}
-use Rattle.appdir_build.specs.Files.{as_item, copy_at, data_end, data_files, data_start, desktop_files, files_of, files_of_programs, front_files, icon_files, lib_file, lib_files, main_file, manifest_file, program_file, record_file, report_file}
+use Rattle.extra_files.specs.Extras.{copy_at, data_files, desktop_files, icon_files}
+use Rattle.appdir_build.specs.Files.{as_item, data_end, data_start, files_of, files_of_programs, front_files, lib_file, lib_files, main_file, manifest_file, program_file, record_file, report_file}
 use Rattle.appdir_build.specs.Outcome.{listing_stop}
 use Rattle.appdir_build.specs.Objects.{lib_objects, program_objects}
 use Rattle.appdir_build.proofs.FirstLemmas.{get_zip}

@@ -1,0 +1,2 @@
+mod MachineLemmas
+pub mod EverywhereLemmas

@@ -1,0 +1,5 @@
+pub mod BuildBytesLemmas
+pub mod FaceBytesLemmas
+pub mod FileLemmas
+pub mod RecordBytesLemmas
+pub mod TextBytesLemmas
