@@ -10,18 +10,33 @@ use Rattle.ports.specs.View.{View}
 use Rattle.refusals.specs.declared.refusal.Refusal.{Refusal}
 use Rattle.appdir_cli.specs.Answering.{IsAnswerIn, IsAnswerTo}
 use Rattle.appdir_cli.specs.Generating.{Generates}
-use Rattle.appdir_cli.specs.Packing.{Packs}
+use Rattle.appdir_cli.specs.Hosting.{Checks}
+use Rattle.appdir_cli.specs.Packing.{PacksAlone, PacksBy}
 use Rattle.appdir_cli.specs.Showing.{Shows}
-use Rattle.appdir_cli.specs.declared.words.Command.TheVariants.{Quick as AsksQuick, Show as AsksShow, Gen as AsksGen}
-use Rattle.appdir_cli.specs.declared.words.Gen.{Gen}
-use Rattle.appdir_cli.specs.declared.words.Quick.{Quick}
-use Rattle.appdir_cli.specs.declared.words.Show.{Show}
+use Rattle.command_words.specs.declared.commands.Command.TheVariants.{Quick as AsksQuick, Build as AsksBuild, Show as AsksShow, Host as AsksHost, Gen as AsksGen}
+use Rattle.command_words.specs.declared.commands.Build.{Build}
+use Rattle.command_words.specs.declared.commands.Gen.{Gen}
+use Rattle.command_words.specs.declared.commands.Host.{Host}
+use Rattle.command_words.specs.declared.commands.Quick.{Quick}
+use Rattle.command_words.specs.declared.commands.Show.{Show}
 
-pub quick_answers : (command : Quick) (before after : View World) (result : Result Answer BuildStop) → IsStepAnswer before after (λ world outcome. Packs world command outcome) result → IsAnswerTo (AsksQuick command) before after result
+pub quick_answers : (command : Quick) (before after : View World) (result : Result Answer BuildStop) → IsStepAnswer before after (λ world outcome. PacksAlone world command outcome) result → IsAnswerTo (AsksQuick command) before after result
 quick_answers command before after (Ok answer) h = h
 quick_answers command before after (Err (Refused refusal)) h = h
 quick_answers command before after (Err Read) h = (tt, h)
 quick_answers command before after (Err NoMemory) h = tt
+
+pub build_answers : (command : Build) (before after : View World) (result : Result Answer BuildStop) → IsStepAnswer before after (λ world outcome. PacksBy world command outcome) result → IsAnswerTo (AsksBuild command) before after result
+build_answers command before after (Ok answer) h = h
+build_answers command before after (Err (Refused refusal)) h = h
+build_answers command before after (Err Read) h = (tt, h)
+build_answers command before after (Err NoMemory) h = tt
+
+pub host_answers : (command : Host) (before after : View World) (result : Result Answer BuildStop) → IsStepAnswer before after (λ world outcome. Checks world command outcome) result → IsAnswerTo (AsksHost command) before after result
+host_answers command before after (Ok answer) h = h
+host_answers command before after (Err (Refused refusal)) h = h
+host_answers command before after (Err Read) h = (tt, h)
+host_answers command before after (Err NoMemory) h = tt
 
 pub show_answers : (command : Show) (before after : View World) (result : Result Answer BuildStop) → IsStepAnswer before after (λ world outcome. Shows world command outcome) result → IsAnswerTo (AsksShow command) before after result
 show_answers command before after (Ok answer) h = h

@@ -1,10 +1,11 @@
 -- `AppRun` is the last file that is written, from how a call ends.
-use Rattle.std.proofs.Common.{ℕ, zero, suc, ◌+◌, ◌<◌, arith, List, [], ◌∷◌, ◌++◌, ◌≡◌, ◌∙◌, inl, inr, refl, ap, sym, subst, Option, Some, Ok, codes, length, take}
+use Rattle.std.proofs.Common.{ℕ, zero, suc, ◌+◌, ◌<◌, arith, List, [], ◌∷◌, ◌++◌, ◌≡◌, ◌∙◌, inl, inr, refl, ap, sym, subst, Option, Some, Result, Ok, codes, length, take}
 use Rattle.std.specs.Prelude.{◌≢◌}
 use Rattle.std.specs.Option.{option_map}
 use Rattle.std.proofs.lemmas.List.{length-append, take-append-le, take_all}
 use Rattle.std.proofs.lemmas.List.Elements.{All-nil, All-take}
 use Rattle.std.proofs.lemmas.Slice.Zip.{AllZip-long}
+use Rattle.app_config.specs.declared.config.Config.{Config}
 use Rattle.appdir_build.proofs.AppRunLemmas.{ends_with_app_run}
 use Rattle.appdir_build.specs.AppRun.{EndsWithAppRun, HasNoAppRun}
 use Rattle.appdir_files.specs.Writing.{AreFilesOf, IsBytesOf, IsFileOf}
@@ -18,15 +19,16 @@ use Rattle.deliveries.specs.declared.answer.Whole.{Whole}
 use Rattle.deliveries.specs.declared.status.Status.{Status}
 use Rattle.deliveries.specs.declared.status.Status.TheVariants.{Done, Refused, Usage, ReadFailed, WriteFailed, NoMemory, PrintFailed}
 use Rattle.load_model.specs.World.{World}
+use Rattle.refusals.specs.declared.refusal.Refusal.{Refusal}
 use Rattle.ports.specs.Folder.{Folder}
 use Rattle.ports.specs.View.{Stays, View}
 use Rattle.ports.specs.declared.folders.MemFile.{MemFile}
 use Rattle.appdir_cli.specs.AppRun.{AreAll, IsAppRunLast, Leaves}
 use Rattle.appdir_cli.specs.Endings.{Ends, EndsFor, IsDone, IsGiven, IsOutcome, IsRefused, Outside}
-use Rattle.appdir_cli.specs.Packing.{IsPacked, config_of}
-use Rattle.appdir_cli.specs.declared.words.Command.{Command}
-use Rattle.appdir_cli.specs.declared.words.Command.TheVariants.{Quick as AsksQuick}
-use Rattle.appdir_cli.specs.declared.words.Quick.{Quick}
+use Rattle.appdir_cli.specs.ComesTo.{ComesTo}
+use Rattle.appdir_cli.specs.Packing.{IsPacked, IsPacking}
+use Rattle.appdir_cli.proofs.CommandsThatPackLemmas.{packed_by, reads_told, says_nothing}
+use Rattle.command_words.specs.declared.commands.Command.{Command}
 
 -- ---- items have one list of files
 
@@ -76,7 +78,7 @@ part_without ms count ends less =
 none_there : (files : List MemFile) → files ≡ [] → HasNoAppRun files
 none_there files e = subst HasNoAppRun (sym e) (All-nil (λ (file : MemFile). file.path ≢ codes "AppRun"))
 
-module _ (world : World) (command : Quick) (before after : View Folder) (held kept : Folder) (tells : before.told ≡ Some held) (empty : held.finished ≡ []) (keeps : after.told ≡ Some kept) where
+module _ (world : World) (before after : View Folder) (held kept : Folder) (tells : before.told ≡ Some held) (empty : held.finished ≡ []) (keeps : after.told ≡ Some kept) where
   kept_is : (latest : Folder) → after.told ≡ Some latest → latest ≡ kept
   kept_is latest e =
       let both : Some latest ≡ Some kept = sym e ∙ keeps in
@@ -85,56 +87,57 @@ module _ (world : World) (command : Quick) (before after : View Folder) (held ke
   untouched : Stays before after → HasNoAppRun kept.finished
   untouched stays = none_there kept.finished (sym (ap (λ (f : Folder). f.finished) (kept_is held (stays ∙ tells))) ∙ empty)
 
-  all_written : (whole : Whole) → IsPacked world command whole → IsWhole (Some world) whole before after → AreAll world command kept.finished
-  all_written whole packed given =
+  all_written : (config : Config) (out : List ℕ) (whole : Whole) (packed : IsPacked world config out whole) → IsWhole (Some world) whole before after → (kept.finished ≡ packed.made.files) × EndsWithAppRun kept.finished
+  all_written config out whole packed given =
       let same : filled whole.place given.files held ≡ kept = kept_is (filled whole.place given.files held) (given.written ∙ ap (option_map (filled whole.place given.files)) tells) in
       let files : kept.finished ≡ given.files = sym (ap (λ (f : Folder). f.finished) same) ∙ ap (λ l. l ++ given.files) empty in
       let all : kept.finished ≡ packed.made.files = files ∙ all_one world whole.items given.files packed.made.files given.each packed.files in
-      record {
-        made = packed.made;
-        builds = packed.builds;
-        files_are = all;
-        app_run = subst EndsWithAppRun (sym all) (ends_with_app_run world (config_of command) packed.made packed.builds);
-      }
+      (all, subst EndsWithAppRun (sym all) (ends_with_app_run world config packed.made packed.builds))
 
-  part_written : (whole : Whole) → IsPacked world command whole → IsCutShort (Some world) whole before after → HasNoAppRun kept.finished
-  part_written whole packed cut =
+  part_written : (config : Config) (out : List ℕ) (whole : Whole) → IsPacked world config out whole → IsCutShort (Some world) whole before after → HasNoAppRun kept.finished
+  part_written config out whole packed cut =
       let begun = cut.begun held tells in
       let files : kept.finished ≡ cut.files = sym (ap (λ (f : Folder). f.finished) (kept_is begun.0 begun.1)) ∙ (begun.2.finished ∙ ap (λ l. l ++ cut.files) empty) in
       let front : cut.files ≡ take cut.count packed.made.files = front_one world whole.items cut.count cut.files packed.made.files cut.each packed.files in
       let count : length packed.made.files ≡ length whole.items = AllZip-long (IsFileOf (Some world)) whole.items packed.made.files packed.files in
       let proper = cut.proper in
-      subst HasNoAppRun (sym (files ∙ front)) (part_without packed.made.files cut.count (ends_with_app_run world (config_of command) packed.made packed.builds) (omega (arith, proper, count)))
+      subst HasNoAppRun (sym (files ∙ front)) (part_without packed.made.files cut.count (ends_with_app_run world config packed.made packed.builds) (omega (arith, proper, count)))
 
   not_full : (whole : Whole) → IsFull whole before after → ⊥
   not_full whole full = full.held held tells empty
 
 -- ---- how a call ends
 
-module _ (command : Quick) (before after : Outside) (world : World) (held kept : Folder) (told : before.tree.told ≡ Some world) (tells : before.folder.told ≡ Some held) (empty : held.finished ≡ []) (keeps : after.folder.told ≡ Some kept) where
+module _ (command : Command) (packing : IsPacking command) (before after : Outside) (world : World) (held kept : Folder) (told : before.tree.told ≡ Some world) (tells : before.folder.told ≡ Some held) (empty : held.finished ≡ []) (keeps : after.folder.told ≡ Some kept) where
+  comes : (outcome : Result Answer Refusal) → IsOutcome command before outcome → ComesTo world command outcome
+  comes outcome is = is world (reads_told command packing before.tree.told ∙ told)
+
   nothing_there : Stays before.folder after.folder → HasNoAppRun kept.finished
-  nothing_there stays = untouched world command before.folder after.folder held kept tells empty keeps stays
+  nothing_there stays = untouched world before.folder after.folder held kept tells empty keeps stays
 
-  given_all : (answer : Answer) → IsOutcome (AsksQuick command) before (Ok answer) → IsGiven answer before.tree.told before.folder after.folder → AreAll world command kept.finished
-  given_all (Says text) outcome given = absurd (outcome world told)
+  given_all : (answer : Answer) → IsOutcome command before (Ok answer) → IsGiven answer before.tree.told before.folder after.folder → AreAll world command kept.finished
+  given_all (Says text) outcome given = absurd (says_nothing world command packing text (comes (Ok (Says text)) outcome))
   given_all (Packs whole) outcome given =
-      all_written world command before.folder after.folder held kept tells empty keeps whole (outcome world told) (subst (λ (t : Option World). IsWhole t whole before.folder after.folder) told given)
+      let p = packed_by world command packing whole (comes (Ok (Packs whole)) outcome) in
+      let all = all_written world before.folder after.folder held kept tells empty keeps p.config p.out whole p.packed (subst (λ (t : Option World). IsWhole t whole before.folder after.folder) told given) in
+      record { config = p.config; out = p.out; packs = p.by; made = p.packed.made; builds = p.packed.builds; files_are = all.0; app_run = all.1 }
 
-  done_all : (text : List ℕ) → IsDone (AsksQuick command) before after text → AreAll world command kept.finished
+  done_all : (text : List ℕ) → IsDone command before after text → AreAll world command kept.finished
   done_all text done = given_all done.answer done.outcome done.given
 
-  refused_none : (text : List ℕ) → IsRefused (AsksQuick command) before after text → HasNoAppRun kept.finished
+  refused_none : (text : List ℕ) → IsRefused command before after text → HasNoAppRun kept.finished
   refused_none text refused =
       elim refused.reason [
         | inl decided ↦ nothing_there decided.untouched
-        | inr over ↦ absurd (not_full world command before.folder after.folder held kept tells empty keeps over.whole over.full)
+        | inr over ↦ absurd (not_full world before.folder after.folder held kept tells empty keeps over.whole over.full)
       ]
 
-  cut_none : (whole : Whole) → IsOutcome (AsksQuick command) before (Ok (Packs whole)) → IsCutShort before.tree.told whole before.folder after.folder → HasNoAppRun kept.finished
+  cut_none : (whole : Whole) → IsOutcome command before (Ok (Packs whole)) → IsCutShort before.tree.told whole before.folder after.folder → HasNoAppRun kept.finished
   cut_none whole outcome cut =
-      part_written world command before.folder after.folder held kept tells empty keeps whole (outcome world told) (subst (λ (t : Option World). IsCutShort t whole before.folder after.folder) told cut)
+      let p = packed_by world command packing whole (comes (Ok (Packs whole)) outcome) in
+      part_written world before.folder after.folder held kept tells empty keeps p.config p.out whole p.packed (subst (λ (t : Option World). IsCutShort t whole before.folder after.folder) told cut)
 
-  leaves : (status : Status) → EndsFor (AsksQuick command) before after status → Leaves world command kept.finished status
+  leaves : (status : Status) → EndsFor command before after status → Leaves world command kept.finished status
   leaves Done h = done_all h.0 h.1
   leaves Refused h = refused_none h.0 h.1
   leaves Usage h = absurd h
@@ -145,5 +148,5 @@ module _ (command : Quick) (before after : Outside) (world : World) (held kept :
 
 pub app_run_last : (asked : Option Command) (before after : Outside) (status : Status) → Ends asked before after status → IsAppRunLast asked before after status
 unfolding IsAppRunLast
-app_run_last asked before after status ends command world held kept is told tells empty keeps =
-    leaves command before after world held kept told tells empty keeps status (subst (λ (a : Option Command). Ends a before after status) is ends)
+app_run_last asked before after status ends command world held kept is packing told tells empty keeps =
+    leaves command packing before after world held kept told tells empty keeps status (subst (λ (a : Option Command). Ends a before after status) is ends)

@@ -13,8 +13,8 @@ use Rattle.deliveries.specs.Saying.{IsRefusal, IsSaid}
 use Rattle.deliveries.specs.declared.answer.Answer.{Answer}
 use Rattle.deliveries.specs.declared.answer.Answer.TheVariants.{Packs, Says}
 use Rattle.deliveries.specs.declared.answer.Whole.{Whole}
-use Rattle.appdir_cli.specs.declared.words.Command.{Command}
-use Rattle.appdir_cli.specs.declared.words.Command.TheVariants.{Quick, Show, Gen}
+use Rattle.command_words.specs.declared.commands.Command.{Command}
+use Rattle.command_words.specs.declared.commands.Command.TheVariants.{Quick, Build, Show, Host, Gen}
 use Rattle.refusals.specs.declared.refusal.Refusal.{Refusal}
 use Rattle.refusals.specs.declared.folder_refusal.FolderRefusal.TheVariants.{NotEmpty}
 use Rattle.refusals.specs.declared.refusal.Refusal.TheVariants.{Folder as RefusesFolder}
@@ -24,7 +24,9 @@ use Rattle.deliveries.specs.declared.status.Status.TheVariants.{Done, Refused, U
 -- a command that comes to files reads the tree
 packs_reads : (command : Command) (before : Outside) (whole : Whole) → IsOutcome command before (Ok (Packs whole)) → ReadsTree command
 packs_reads (Quick quick) before whole h = tt
+packs_reads (Build build) before whole h = tt
 packs_reads (Show show) before whole h = tt
+packs_reads (Host host) before whole h = tt
 packs_reads (Gen gen) before whole h = h (made_tree gen.count) refl
 
 module _ (command : Command) (before after : Outside) (whole : Whole) (outcome : IsOutcome command before (Ok (Packs whole))) where

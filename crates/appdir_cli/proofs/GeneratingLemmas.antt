@@ -2,10 +2,11 @@
 use Rattle.std.proofs.Common.{ℕ, List, [], ◌≡◌, All, refl, sym, ap, subst, ◌∙◌, length, option_map, Some, Ok, Err}
 use Rattle.std.proofs.lemmas.List.Elements.{All-nil, All-cons}
 use Rattle.std.proofs.lemmas.Slice.Zip.{AllZip-long}
+use Rattle.app_config.specs.Ready.{AreTogether}
 use Rattle.app_config.specs.declared.config.Config.{Config}
 use Rattle.appdir_build.proofs.LawLemmas.{at_most_one_outcome}
 use Rattle.appdir_build.specs.Outcome.{Outcome, Package}
-use Rattle.appdir_build.specs.Writing.{Builds, IsBuilt, IsProgramAlone}
+use Rattle.appdir_build.specs.Writing.{Builds, IsBuilt}
 use Rattle.appdir_build.specs.declared.built.Built.{Built}
 use Rattle.appdir_files.specs.Writing.{IsFileOf}
 use Rattle.build_plan.specs.Deciding.{OpensFileNames}
@@ -33,9 +34,8 @@ generated_or_refused world count text refusal generated refused =
 
 -- ---- what the build asks of the configuration
 
-pub gen_alone : (config : Config) → config ≡ gen_config → IsProgramAlone config
-gen_alone config e =
-    subst (λ (c : Config). IsProgramAlone c) (sym e) (record { tools = refl; files = refl; desktop = refl; icon = refl })
+pub gen_entry : (config : Config) → config ≡ gen_config → AreTogether config.desktop config.icon
+gen_entry config e = subst (λ (c : Config). AreTogether c.desktop c.icon) (sym e) tt
 
 pub gen_opens : (config : Config) → config ≡ gen_config → OpensFileNames config
 gen_opens config e =

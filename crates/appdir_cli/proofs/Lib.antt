@@ -1,13 +1,12 @@
 pub mod AnsweringLemmas
 pub mod AppRunLemmas
-pub mod CommandLemmas
+pub mod CheckedHostsLemmas
+pub mod CommandsThatPackLemmas
 pub mod CompletenessLemmas
-pub mod CountLemmas
 pub mod EndingLemmas
 pub mod GeneratingLemmas
-pub mod Lists
+pub mod HostingLemmas
 pub mod PackingLemmas
 pub mod SameEverywhereLemmas
 pub mod ShowingLemmas
-pub mod SizeLemmas
 pub mod TwoWorldsLemmas

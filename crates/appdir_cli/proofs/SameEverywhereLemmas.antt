@@ -1,59 +1,42 @@
--- The packed program runs the same everywhere, from how a call ends and from the laws of builds.
-use Rattle.std.proofs.Common.{ℕ, arith, List, [], ◌∷◌, ◌≡◌, ◌∙◌, inl, inr, refl, ap, sym, subst, Option, Some, Ok, codes, length, slice_get}
-use Rattle.std.specs.Prelude.{All, IsUtf8, String, ◌⊎◌, option_map}
+-- The packed programs run the same everywhere, from how a call ends and from the laws of builds.
+use Rattle.std.proofs.Common.{ℕ, List, [], ◌∷◌, ◌≡◌, ◌∙◌, refl, ap, sym, subst, Option, Some, Ok, map, slice_get}
+use Rattle.std.specs.Prelude.{All, IsUtf8, String, option_map}
 use Rattle.std.specs.Global.{Global}
-use Rattle.std.specs.List.{AllZip}
 use Rattle.std.proofs.lemmas.List.Elements.{All-nil, All-cons, All-head, All-tail}
 use Rattle.answers.specs.Told.{WhereTold}
 use Rattle.app_config.specs.Names.{names_or_default}
+use Rattle.app_config.specs.Ready.{IsNamed, IsNameText, IsReady, OpensNames}
 use Rattle.app_config.specs.declared.config.Config.{Config}
 use Rattle.app_config.specs.declared.config.Program.{Program}
 use Rattle.appdir_build.specs.Outcome.{IsPackage, Package}
-use Rattle.build_laws.specs.BuiltRuns.{IsRunIn}
-use Rattle.build_laws.specs.Renaming.{IsProgramOf, as_items, as_placed, is_bundled_in, name_in}
-use Rattle.build_laws.specs.Sources.{IsNameText, IsSource}
-use Rattle.build_laws.proofs.ImageLemmas.{memory_kept}
-use Rattle.build_plan.specs.Building.{Building, start_of}
-use Rattle.build_runs.specs.BuildRuns.{IsRunFor}
+use Rattle.build_laws.specs.Sources.{IsSource}
+use Rattle.build_plan.specs.Building.{start_of, starts_of}
 use Rattle.build_runs.specs.declared.programs.Start.{Start}
-use Rattle.build_texts.specs.Places.{program_places}
+use Rattle.command_words.proofs.CommandLemmas.{command_names, command_texts}
+use Rattle.command_words.specs.Words.{command_of, texts}
+use Rattle.command_words.specs.declared.commands.Command.{Command}
+use Rattle.command_words.specs.declared.commands.Command.TheVariants.{Quick as AsksQuick, Build as AsksBuild, Show as AsksShow, Host as AsksHost, Gen as AsksGen}
+use Rattle.command_words.specs.declared.commands.Quick.{Quick}
+use Rattle.config_files.proofs.ConfiguringLemmas.{configured_ready, one_configuration}
 use Rattle.deliveries.specs.Delivery.{IsWhole, filled}
 use Rattle.deliveries.specs.declared.answer.Answer.{Answer}
 use Rattle.deliveries.specs.declared.answer.Answer.TheVariants.{Packs, Says}
 use Rattle.deliveries.specs.declared.answer.Whole.{Whole}
 use Rattle.deliveries.specs.declared.status.Status.{Status}
 use Rattle.deliveries.specs.declared.status.Status.TheVariants.{Done}
-use Rattle.lib_closure.proofs.ContainedLemmas.{at_place}
 use Rattle.load_model.specs.Escaping.{AreBytes}
-use Rattle.load_model.specs.Faces.{face_or_flaw}
-use Rattle.load_model.specs.Joined.{joined}
-use Rattle.load_model.specs.LoadList.{Object}
-use Rattle.load_model.specs.Runs.{IsRunOver}
 use Rattle.load_model.specs.World.{IsWorld, World}
-use Rattle.load_model.specs.declared.runs.Run.{Run}
-use Rattle.load_model.specs.declared.setting.Setting.{Setting}
 use Rattle.load_model.specs.declared.world.WorldFile.{WorldFile}
-use Rattle.load_model.proofs.AskedNeeds.{get_map}
-use Rattle.load_model.proofs.OneRun.{there as stands_there}
-use Rattle.moved_builds.specs.Homes.{IsHome}
-use Rattle.moved_builds.proofs.LawLemmas.{list_there, moved_ends, moved_here, opens_only, package_moved, recorded, run_in, same_there}
-use Rattle.moved_runs.specs.OpenedThere.{MayBeOpened}
-use Rattle.moved_runs.specs.Placed.{Item, lib_place}
-use Rattle.moved_runs.specs.Places.{IsItem}
-use Rattle.object_changes.proofs.StandingLemmas.{all_at}
+use Rattle.packed_programs.specs.Everywhere.{AreImagesKept, ProgramRuns}
 use Rattle.path_text.specs.FileName.{IsFileName}
 use Rattle.ports.specs.Folder.{Folder}
 use Rattle.ports.specs.View.{View}
-use Rattle.ports.specs.declared.folders.MemFile.{MemFile}
+use Rattle.appdir_cli.specs.ComesTo.{ComesTo}
 use Rattle.appdir_cli.specs.Endings.{Ends, IsDone, IsGiven, IsOutcome, Outside}
-use Rattle.appdir_cli.specs.Packing.{IsPacked, config_of}
-use Rattle.appdir_cli.specs.SameEverywhere.{IsOfDirectory, IsOnRecord, RunsEverywhere, RunsSameEverywhere, RunsThere, program_path}
-use Rattle.appdir_cli.specs.Words.{command_of, texts}
-use Rattle.appdir_cli.specs.declared.words.Command.{Command}
-use Rattle.appdir_cli.specs.declared.words.Command.TheVariants.{Quick as AsksQuick}
-use Rattle.appdir_cli.specs.declared.words.Quick.{Quick}
+use Rattle.appdir_cli.specs.Packing.{IsPacked, IsPackingBy, config_of}
+use Rattle.appdir_cli.specs.SameEverywhere.{RunsEverywhere, RunsSameEverywhere}
 use Rattle.appdir_cli.proofs.AppRunLemmas.{all_one}
-use Rattle.appdir_cli.proofs.CommandLemmas.{command_names, command_texts}
+use Rattle.appdir_cli.proofs.CommandsThatPackLemmas.{is_packing, packed_by, reads_told, says_nothing}
 
 -- ---- what the command gives
 
@@ -62,8 +45,8 @@ both {X} P Q [] h g = All-nil (λ (x : X). P x × Q x)
 both {X} P Q (x ∷ xs) h g =
     All-cons (λ (y : X). P y × Q y) x xs (All-head P x xs h, All-head Q x xs g) (both P Q xs (All-tail P x xs h) (All-tail Q x xs g))
 
-source : (words : List (String Global)) (world : World) (command : Quick) → command_of (texts words) ≡ Some (AsksQuick command) → IsWorld world → All (λ (f : WorldFile). AreBytes f.bytes) world → IsSource world (config_of command)
-source words world command asked is bytes =
+source_alone : (words : List (String Global)) (world : World) (command : Quick) → command_of (texts words) ≡ Some (AsksQuick command) → IsWorld world → All (λ (f : WorldFile). AreBytes f.bytes) world → IsSource world (config_of command)
+source_alone words world command asked is bytes =
     record {
       world_is = is;
       bytes = bytes;
@@ -72,126 +55,88 @@ source words world command asked is bytes =
       tools = All-nil (λ (tool : Program). IsFileName tool.name);
     }
 
-lies_first : (config : Config) → slice_get (program_places config) 0 ≡ Some (codes "AppRun")
-unfolding program_places
-lies_first config = refl
+starts_opened : (programs : List Program) → All OpensNames programs → All (λ (start : Start). All IsNameText start.opens) (map start_of programs)
+starts_opened [] h = All-nil (λ (start : Start). All IsNameText start.opens)
+starts_opened (program ∷ programs) h =
+    All-cons (λ (start : Start). All IsNameText start.opens) (start_of program) (map start_of programs) (All-head OpensNames program programs h) (starts_opened programs (All-tail OpensNames program programs h))
 
-first_of : {X Y : Type 0} (P : X → Y → Type 0) (x : X) (xs : List X) (ys : List Y) → AllZip P (x ∷ xs) ys → (y : Y) × (slice_get ys 0 ≡ Some y)
-first_of P x xs [] h = absurd h
-first_of P x xs (y ∷ ys) h = (y, refl)
+source_read : (world : World) (config : Config) → IsReady config → IsWorld world → All (λ (f : WorldFile). AreBytes f.bytes) world → IsSource world config
+source_read world config ready is bytes =
+    record {
+      world_is = is;
+      bytes = bytes;
+      names = ready.names;
+      opens = starts_opened (config.main ∷ config.tools) ready.opens;
+      tools = λ k d less. (ready.tools k d less).0;
+    }
 
--- ---- what is opened
+source : (words : List (String Global)) (world : World) (command : Command) (config : Config) (out : List ℕ) → command_of (texts words) ≡ Some command → IsPackingBy world command config out → IsWorld world → All (λ (f : WorldFile). AreBytes f.bytes) world → IsSource world config
+source words world (AsksQuick command) config out asked packs is bytes =
+    subst (λ (c : Config). IsSource world c) (sym packs.0) (source_alone words world command asked is bytes)
+source words world (AsksBuild command) config out asked packs is bytes =
+    source_read world config (configured_ready world command.config config packs.0) is bytes
+source words world (AsksShow command) config out asked packs is bytes = absurd packs
+source words world (AsksHost command) config out asked packs is bytes = absurd packs
+source words world (AsksGen command) config out asked packs is bytes = absurd packs
 
-module _ (files : List MemFile) (host : World) (setting : Setting) (place : List ℕ) where
-  own_file : (b : Building) (path : List ℕ) (q : Object) → IsItem face_or_flaw setting host place (as_items files) path q → IsOfDirectory b files host setting place (joined place path)
-  own_file b path q is =
-      let w = get_map as_placed files is.number is.item is.is_item in
-      let same : w.0.path ≡ path = sym (ap (λ (i : Item). i.path) w.2) ∙ is.path_is in
-      (w.0, at_place files is.number w.0 w.1, ap (joined place) (sym same))
+-- A command packs by one configuration in a world, into one place.
+one_packing : (world : World) (command : Command) (config other : Config) (out place : List ℕ) → IsPackingBy world command config out → IsPackingBy world command other place → (config ≡ other) × (out ≡ place)
+one_packing world (AsksQuick command) config other out place a b = (a.0 ∙ sym b.0, a.1 ∙ sym b.1)
+one_packing world (AsksBuild command) config other out place a b = (one_configuration world command.config config other a.0 b.0, a.1 ∙ sym b.1)
+one_packing world (AsksShow command) config other out place a b = absurd a
+one_packing world (AsksHost command) config other out place a b = absurd a
+one_packing world (AsksGen command) config other out place a b = absurd a
 
-module _ (world : World) (command : Quick) (made : Package) (run : Run) (ready : IsPackage world (config_of command) made) (from : IsSource world (config_of command)) (is : IsProgramOf (config_of command) ready.building 0 (start_of (config_of command).main) run program_path) where
-  abbrev b : Building
-  b = ready.building
+-- ---- the laws of packages
 
-  abbrev start : Start
-  start = start_of (config_of command).main
+abbrev pub ProgramsRun : Type 0
+ProgramsRun = (world : World) (config : Config) (made : Package) (ready : IsPackage world config made) → IsSource world config → (number : ℕ) (start : Start) → slice_get (starts_of config) number ≡ Some start → ProgramRuns world config ready.building made.files number start
 
-  abbrev here : IsRunIn world (config_of command) b 0 start run program_path
-  here = run_in world (config_of command) made 0 start run program_path ready from is
+abbrev pub KeepsImages : Type 0
+KeepsImages = (world : World) (config : Config) (made : Package) (ready : IsPackage world config made) → IsSource world config → AreImagesKept world ready.building
 
-  module _ (host : World) (setting : Setting) (place : List ℕ) (home : IsHome host (config_of command) b setting place made.files) where
-    abbrev objs : List Object
-    objs = here.plays.loads.loaded.objs
+-- ---- how a call ends
 
-    abbrev objs_there : List Object
-    objs_there = (moved_here world (config_of command) made 0 start run program_path ready from is host setting place home).objs
-
-    own_or_recorded : (path : List ℕ) → MayBeOpened face_or_flaw setting host place (name_in b run) (is_bundled_in b run) (length run.objs) program_path path → IsOfDirectory b made.files host setting place path ⊎ IsOnRecord b made.files host setting place path
-    own_or_recorded path may =
-        let moved = package_moved world (config_of command) made 0 start run program_path ready from is host setting place home in
-        let count = here.plays.loads.run_is.count in
-        let size = moved.count in
-        elim may [
-          | inl program ↦
-              let some = (all_at (IsRunOver b.faces) b.runs 0 run here.over is.runs).program in
-              let o = stands_there objs 0 (omega (arith, count, some)) in
-              let q = stands_there objs_there 0 (omega (arith, count, size, some)) in
-              inl (subst (IsOfDirectory b made.files host setting place) (sym program) (own_file made.files host setting place b program_path q.0 (moved.program_is o.0 q.0 o.1 q.1).0.item))
-          | inr other ↦
-              elim other [
-                | inl lib ↦
-                    let below = lib.below in
-                    let o = stands_there objs lib.number (omega (arith, count, below)) in
-                    let q = stands_there objs_there lib.number (omega (arith, count, size, below)) in
-                    inl (subst (IsOfDirectory b made.files host setting place) (sym lib.path_is) (own_file made.files host setting place b (lib_place (name_in b run lib.number)) q.0 (moved.bundled lib.number o.0 q.0 lib.some lib.bundled o.1 q.1).item))
-                | inr found ↦
-                    let x = stands_there run.objs found.number found.below in
-                    inr (
-                      name_in b run found.number,
-                      found.listed.dir,
-                      recorded world (config_of command) made 0 start run program_path ready from is found.number x.0 found.some x.1 found.of_host,
-                      at_place setting.dirs found.listed.number found.listed.dir found.listed.listed,
-                      found.listed.joined_is,
-                    )
-              ]
-        ]
-
-    runs_there : RunsThere b made.files host setting place run
-    runs_there =
-        record {
-          loaded = moved_here world (config_of command) made 0 start run program_path ready from is host setting place home;
-          ends = moved_ends world (config_of command) made 0 start run program_path ready from is host setting place home;
-          loads = list_there world (config_of command) made 0 start run program_path ready from is host setting place home;
-          opens = λ path opened. own_or_recorded path
-              (opens_only world (config_of command) made 0 start run program_path ready from is host setting place home
-              (moved_here world (config_of command) made 0 start run program_path ready from is host setting place home)
-              (moved_ends world (config_of command) made 0 start run program_path ready from is host setting place home) path
-              (list_there world (config_of command) made 0 start run program_path ready from is host setting place home) opened);
-          same = same_there world (config_of command) made 0 start run program_path ready from is host setting place home;
-        }
-
-  everywhere : (before after : View Folder) → after.told ≡ option_map (filled command.out made.files) before.told → RunsEverywhere world command before after
-  everywhere before after written =
+module _ (run : ProgramsRun) (keep : KeepsImages) (world : World) (config : Config) (out : List ℕ) (from : IsSource world config) where
+  of_package : (made : Package) → IsPackage world config made → (before after : View Folder) → after.told ≡ option_map (filled out made.files) before.told → RunsEverywhere world config out before after
+  of_package made ready before after written =
       record {
         made = made;
         builds = ready;
         written = written;
-        run = run;
-        runs = here.plays;
-        images = memory_kept world (config_of command) b 0 start run program_path here ready.written;
-        there = runs_there;
+        images = keep world config made ready from;
+        programs = run world config made ready from;
       }
 
--- ---- how a call ends
-
-module _ (world : World) (command : Quick) (from : IsSource world (config_of command)) where
-  of_package : (made : Package) → IsPackage world (config_of command) made → (before after : View Folder) → after.told ≡ option_map (filled command.out made.files) before.told → RunsEverywhere world command before after
-  of_package made ready before after written =
-      let w = first_of (IsRunFor (config_of command).setting world ready.building.faces) (start_of (config_of command).main) [] ready.building.runs ready.builds.runs.each in
-      everywhere world command made w.0 ready from (record { starts = refl; runs = w.1; lies = lies_first (config_of command) }) before after written
-
-  of_whole : (whole : Whole) (before after : View Folder) → IsPacked world command whole → IsWhole (Some world) whole before after → RunsEverywhere world command before after
+  of_whole : (whole : Whole) (before after : View Folder) → IsPacked world config out whole → IsWhole (Some world) whole before after → RunsEverywhere world config out before after
   of_whole whole before after packed given =
       let files : given.files ≡ packed.made.files = all_one world whole.items given.files packed.made.files given.each packed.files in
       of_package packed.made packed.builds before after
       (given.written ∙ ap (λ p. option_map (filled p given.files) before.told) packed.place
-      ∙ ap (λ fs. option_map (filled command.out fs) before.told) files)
+      ∙ ap (λ fs. option_map (filled out fs) before.told) files)
 
-  module _ (before after : Outside) (told : before.tree.told ≡ Some world) where
-    of_answer : (answer : Answer) → IsOutcome (AsksQuick command) before (Ok answer) → IsGiven answer before.tree.told before.folder after.folder → RunsEverywhere world command before.folder after.folder
-    of_answer (Says text) outcome given = absurd (outcome world told)
-    of_answer (Packs whole) outcome given =
-        of_whole whole before.folder after.folder (outcome world told) (subst (λ (t : Option World). IsWhole t whole before.folder after.folder) told given)
+module _ (run : ProgramsRun) (keep : KeepsImages) (world : World) (command : Command) (config : Config) (out : List ℕ) (packs : IsPackingBy world command config out) (from : IsSource world config) (before after : Outside) (told : before.tree.told ≡ Some world) where
+  comes : (answer : Answer) → IsOutcome command before (Ok answer) → ComesTo world command (Ok answer)
+  comes answer outcome = outcome world (reads_told command (is_packing world command config out packs) before.tree.told ∙ told)
 
-    of_done : (text : List ℕ) → IsDone (AsksQuick command) before after text → RunsEverywhere world command before.folder after.folder
-    of_done text done = of_answer done.answer done.outcome done.given
+  of_answer : (answer : Answer) → IsOutcome command before (Ok answer) → IsGiven answer before.tree.told before.folder after.folder → RunsEverywhere world config out before.folder after.folder
+  of_answer (Says text) outcome given = absurd (says_nothing world command (is_packing world command config out packs) text (comes (Says text) outcome))
+  of_answer (Packs whole) outcome given =
+      let p = packed_by world command (is_packing world command config out packs) whole (comes (Packs whole) outcome) in
+      let same = one_packing world command p.config config p.out out p.by packs in
+      of_whole run keep world config out from whole before.folder after.folder
+      (subst (λ (o : List ℕ). IsPacked world config o whole) same.1 (subst (λ (c : Config). IsPacked world c p.out whole) same.0 p.packed))
+      (subst (λ (t : Option World). IsWhole t whole before.folder after.folder) told given)
 
-ended_done : (asked : Option Command) (before after : Outside) (status : Status) (command : Quick) → asked ≡ Some (AsksQuick command) → status ≡ Done → Ends asked before after status → Ends (Some (AsksQuick command)) before after Done
+  of_done : (text : List ℕ) → IsDone command before after text → RunsEverywhere world config out before.folder after.folder
+  of_done text done = of_answer done.answer done.outcome done.given
+
+pub ended_done : (asked : Option Command) (before after : Outside) (status : Status) (command : Command) → asked ≡ Some command → status ≡ Done → Ends asked before after status → Ends (Some command) before after Done
 ended_done asked before after status command is done ends =
-    subst (λ (s : Status). Ends (Some (AsksQuick command)) before after s) done (subst (λ (a : Option Command). Ends a before after status) is ends)
+    subst (λ (s : Status). Ends (Some command) before after s) done (subst (λ (a : Option Command). Ends a before after status) is ends)
 
-pub same_everywhere : (words : List (String Global)) (before after : Outside) (status : Status) → WhereTold before.tree.told IsWorld → Ends (command_of (texts words)) before after status → RunsSameEverywhere (command_of (texts words)) before after status
+pub same_everywhere : ProgramsRun → KeepsImages → (words : List (String Global)) (before after : Outside) (status : Status) → WhereTold before.tree.told IsWorld → Ends (command_of (texts words)) before after status → RunsSameEverywhere (command_of (texts words)) before after status
 unfolding RunsSameEverywhere
-same_everywhere words before after status tells ends command world asked done told bytes =
+same_everywhere run keep words before after status tells ends command world config out asked packs done told bytes =
     let w = ended_done (command_of (texts words)) before after status command asked done ends in
-    of_done world command (source words world command asked (tells world told) bytes) before after told w.0 w.1
+    of_done run keep world command config out packs (source words world command config out asked packs (tells world told) bytes) before after told w.0 w.1

@@ -23,11 +23,12 @@ use Rattle.load_model.specs.declared.runs.Run.{Run}
 use Rattle.load_model.specs.declared.setting.Setting.{Setting}
 use Rattle.ports.specs.View.{View}
 use Rattle.refusals.specs.declared.refusal.Refusal.{Refusal}
-use Rattle.refusals.specs.declared.refusal.Refusal.TheVariants.{Load, Split, Names, Rewrite, Files, Folder}
+use Rattle.refusals.specs.declared.refusal.Refusal.TheVariants.{Config, Load, Split, Names, Rewrite, Files, Folder}
 use Rattle.appdir_cli.specs.Showing.{IsShown, Shows, ShowsIn, shown_program, shown_text}
-use Rattle.appdir_cli.specs.declared.words.Show.{Show}
+use Rattle.command_words.specs.declared.commands.Show.{Show}
 
 pub shown_or_refused : (world : World) (command : Show) (text : List ℕ) (refusal : Refusal) → IsShown (setting_of command.dirs) world command.program text → Shows world command (Err refusal) → ⊥
+shown_or_refused world command text (Config refusal) shown refused = refused
 shown_or_refused world command text (Load refusal) shown refused =
     runs_or_stop (setting_of command.dirs) world (shown_program command.program ∷ []) shown.faces (shown.run ∷ []) refusal shown.loads refused
 shown_or_refused world command text (Split refusal) shown refused = refused

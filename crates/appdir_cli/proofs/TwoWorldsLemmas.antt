@@ -11,9 +11,9 @@ use Rattle.listed_runs.proofs.ByNamesLemmas.{goes_by_names}
 use Rattle.app_config.specs.Names.{names_or_default}
 use Rattle.app_config.specs.Settings.{default_setting}
 use Rattle.appdir_cli.specs.TwoWorlds.{IsPackable, RunsAlike, RunsOnHosts}
-use Rattle.appdir_cli.specs.Words.{command_of}
-use Rattle.appdir_cli.specs.declared.words.Quick.{Quick}
-use Rattle.appdir_cli.proofs.CommandLemmas.{command_names}
+use Rattle.command_words.specs.Words.{command_of}
+use Rattle.command_words.specs.declared.commands.Quick.{Quick}
+use Rattle.command_words.proofs.CommandLemmas.{command_names}
 
 runs_on_hosts : (world : World) (command : Quick) (start : WorldFile) (loaded : Loaded) → All IsFileName (names_or_default command.names) → IsPackable world command start loaded → RunsOnHosts start loaded
 runs_on_hosts world command start loaded plain packable host setting place copy machine carried =

@@ -9,7 +9,7 @@ use Rattle.load_model.specs.World.{World}
 use Rattle.ports.specs.View.{View}
 use Rattle.refusals.specs.declared.refusal.Refusal.{Refusal}
 use Rattle.appdir_cli.specs.ComesTo.{ComesTo, ReadsTree, world_read}
-use Rattle.appdir_cli.specs.declared.words.Command.{Command}
+use Rattle.command_words.specs.declared.commands.Command.{Command}
 
 -- An answer or a refusal is what the command comes to in the world that it reads; a read fails only
 -- where the command reads the tree and the count of faults rose; want of memory is free.

@@ -13,7 +13,7 @@ use Rattle.deliveries.specs.Saying.{Took, TookPart}
 use Rattle.deliveries.specs.declared.answer.Answer.{Answer}
 use Rattle.deliveries.specs.declared.answer.Answer.TheVariants.{Says, Packs}
 use Rattle.deliveries.specs.declared.answer.Whole.{Whole}
-use Rattle.appdir_cli.specs.declared.words.Command.{Command}
+use Rattle.command_words.specs.declared.commands.Command.{Command}
 use Rattle.refusals.specs.declared.refusal.Refusal.{Refusal}
 use Rattle.refusals.specs.declared.folder_refusal.FolderRefusal.TheVariants.{NotEmpty}
 use Rattle.refusals.specs.declared.refusal.Refusal.TheVariants.{Folder as RefusesFolder}

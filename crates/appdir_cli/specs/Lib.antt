@@ -1,10 +1,11 @@
 pub mod Answering
 pub mod AppRun
+pub mod CheckedHosts
 pub mod ComesTo
 pub mod Endings
 pub mod Generating
+pub mod Hosting
 pub mod Packing
 pub mod SameEverywhere
 pub mod Showing
 pub mod TwoWorlds
-pub mod Words

@@ -14,8 +14,8 @@ use Rattle.load_model.specs.declared.faces.Face.{Face}
 use Rattle.load_model.specs.declared.runs.Run.{Run}
 use Rattle.load_model.specs.declared.setting.Setting.{Setting}
 use Rattle.refusals.specs.declared.refusal.Refusal.{Refusal}
-use Rattle.refusals.specs.declared.refusal.Refusal.TheVariants.{Load, Split, Names, Rewrite, Files, Folder}
-use Rattle.appdir_cli.specs.declared.words.Show.{Show}
+use Rattle.refusals.specs.declared.refusal.Refusal.TheVariants.{Config, Load, Split, Names, Rewrite, Files, Folder}
+use Rattle.command_words.specs.declared.commands.Show.{Show}
 
 -- What a program loads, with the bindings of all its references.
 unfoldable pub shown_text : List Face → Run → List ℕ
@@ -36,6 +36,7 @@ pub record IsShown (setting : Setting) (world : World) (path text : List ℕ) : 
 abbrev pub ShowsIn : Setting → World → List ℕ → Result Answer Refusal → Type 0
 ShowsIn setting world path (Ok (Says text)) = IsShown setting world path text
 ShowsIn setting world path (Ok (PacksFiles whole)) = ⊥
+ShowsIn setting world path (Err (Config refusal)) = ⊥
 ShowsIn setting world path (Err (Load refusal)) =
     IsFirstStop setting world (shown_program path ∷ []) refusal
 ShowsIn setting world path (Err (Split refusal)) = ⊥

@@ -11,9 +11,9 @@ use Rattle.listed_runs.specs.Fitting.{is_all_listed}
 use Rattle.app_config.specs.Names.{names_or_default}
 use Rattle.app_config.specs.Settings.{default_setting}
 use Rattle.load_model.specs.Loads.{IsLoadList}
-use Rattle.appdir_cli.specs.declared.words.Command.{Command}
-use Rattle.appdir_cli.specs.declared.words.Command.TheVariants.{Quick as AsksQuick}
-use Rattle.appdir_cli.specs.declared.words.Quick.{Quick}
+use Rattle.command_words.specs.declared.commands.Command.{Command}
+use Rattle.command_words.specs.declared.commands.Command.TheVariants.{Quick as AsksQuick}
+use Rattle.command_words.specs.declared.commands.Quick.{Quick}
 
 -- A program that can be packed in a world, with its file and its load list there.
 pub record IsPackable (world : World) (command : Quick) (start : WorldFile) (loaded : Loaded)

@@ -11,9 +11,9 @@ ghost use Rattle.load_model.specs.World.{World};
 ghost use Rattle.appdir_cli.specs.Answering.{IsAnswerIn};
 ghost use Rattle.appdir_cli.specs.Generating.{Generates, counts_in, gen_config, gen_line, objects_text, references_text};
 
-use crate::words::Gen;
 use app_config::{Config, quick_config, setting_of};
 use appdir_build::{BuildStop, Built, build};
+use command_words::Gen;
 use deliveries::{Answer, Status, Whole, give};
 use elf_make::make_tree;
 use load_model::{List, Text};

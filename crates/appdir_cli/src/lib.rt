@@ -2,13 +2,13 @@
 #![tactic(auto)]
 
 mod generating;
+mod hosting;
 mod obeying;
 mod packing;
 mod showing;
 mod top;
-mod words;
 
+pub use command_words::{Build, Command, Gen, Host, Quick, Show};
 pub use deliveries::{Answer, Status, Whole, exit_number, status_name};
 pub use refusals::Refusal;
 pub use top::appdir_main;
-pub use words::{Command, Gen, Quick, Show};

@@ -4,21 +4,22 @@
 ghost use Rattle.std.specs.Prelude.{◌≤◌, IfOk};
 ghost use Rattle.appdir_cli.specs.Answering.{IsAnswerTo};
 ghost use Rattle.appdir_cli.specs.Endings.{EndsFor, outside};
-ghost use Rattle.appdir_cli.specs.Words.{IsSized};
+ghost use Rattle.command_words.specs.Words.{IsSized};
 ghost use Rattle.deliveries.specs.Delivery.{IsAnswerProbed};
 ghost use Rattle.ports.specs.View.{OnlyReads};
 
 use crate::generating::generate;
-use crate::packing::quick;
+use crate::hosting::host;
+use crate::packing::{build_by, quick};
 use crate::showing::show;
-use crate::words::Command;
 use appdir_build::BuildStop;
+use command_words::Command;
 use deliveries::{Answer, Status, give, refuse};
 use ports::{OutDir, Sink, Tree};
 use std::alloc::Global;
 
 /// What the command comes to.
-#[tactic(auto, using(crate::proofs::AnsweringLemmas::quick_answers, crate::proofs::AnsweringLemmas::show_answers, crate::proofs::AnsweringLemmas::gen_answers))]
+#[tactic(auto, using(crate::proofs::AnsweringLemmas::quick_answers, crate::proofs::AnsweringLemmas::build_answers, crate::proofs::AnsweringLemmas::show_answers, crate::proofs::AnsweringLemmas::host_answers, crate::proofs::AnsweringLemmas::gen_answers))]
 fn answer<T: Tree>(alloc: Global, tree: &mut T, command: &Command) -> Result<Answer, BuildStop>
     requires { IsSized command.now }
     ensures answer { IsAnswerTo command.now (T.seen tree.old) (T.seen tree.new) result }
@@ -27,7 +28,9 @@ fn answer<T: Tree>(alloc: Global, tree: &mut T, command: &Command) -> Result<Ans
 {
     match command {
         Command::Quick(command) => quick(alloc, tree, command),
+        Command::Build(command) => build_by(alloc, tree, command),
         Command::Show(command) => show(alloc, tree, command),
+        Command::Host(command) => host(alloc, tree, command),
         Command::Gen(command) => generate(alloc, command),
     }
 }

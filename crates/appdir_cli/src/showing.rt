@@ -11,11 +11,11 @@ ghost use Rattle.load_model.specs.declared.runs.Run.{Run};
 ghost use Rattle.ports.specs.View.{OnlyReads};
 ghost use Rattle.appdir_cli.specs.Showing.{Shows, ShowsIn, shown_program, shown_text};
 
-use crate::words::Show;
 use app_config::setting_of;
 use appdir_build::BuildStop;
 use bind_report::report;
 use build_runs::{LoadedRuns, LoadsStop, Start, load_all};
+use command_words::Show;
 use deliveries::Answer;
 use load_model::{List, Name, Obj, Replay, Run, Setting, Text};
 use loader_replay::binds_of;

@@ -1,11 +1,11 @@
 use Rattle.std.proofs.Common.{All, Option, subst, sym}
 use Rattle.appdir_files.specs.Writing.{IsProbed}
 use Rattle.load_model.specs.World.{World}
-use Rattle.appdir_cli.proofs.GeneratingLemmas.{gen_alone, gen_opens, generates, generating_stops}
+use Rattle.appdir_cli.proofs.GeneratingLemmas.{gen_entry, gen_opens, generates, generating_stops}
 use Rattle.appdir_cli.proofs.generating.generate_in.Goals as goal
 
-pub build-requires-clause-alone : goal.build-requires-clause-alone
-build-requires-clause-alone g c = gen_alone c.in-Ok.config c.in-Ok.ensures
+pub build-requires-clause-entry : goal.build-requires-clause-entry
+build-requires-clause-entry g c = gen_entry c.in-Ok.config c.in-Ok.ensures
 
 pub build-requires-clause-opens : goal.build-requires-clause-opens
 build-requires-clause-opens g c = gen_opens c.in-Ok.config c.in-Ok.ensures

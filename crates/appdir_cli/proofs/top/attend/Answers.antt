@@ -1,9 +1,9 @@
 use Rattle.std.proofs.Common.{◌≡◌, ◌∙◌, sym, subst, refl, Option, None}
 use Rattle.appdir_cli.specs.Endings.{Ends, Outside, outside}
-use Rattle.appdir_cli.specs.Words.{command_of, texts}
-use Rattle.appdir_cli.specs.declared.words.Command.{Command}
+use Rattle.command_words.specs.Words.{command_of, texts}
+use Rattle.command_words.specs.declared.commands.Command.{Command}
 use Rattle.appdir_cli.proofs.EndingLemmas.{unshaped_ends}
-use Rattle.appdir_cli.proofs.SizeLemmas.{command_sized}
+use Rattle.command_words.proofs.SizeLemmas.{command_sized}
 use Rattle.appdir_cli.proofs.top.attend.Goals as goal
 
 pub obey-requires : goal.obey-requires

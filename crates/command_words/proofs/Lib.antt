@@ -1,0 +1,10 @@
+pub mod BuildFormLemmas
+pub mod CommandLemmas
+pub mod CountLemmas
+pub mod FlaglessLemmas
+pub mod GenFormLemmas
+pub mod Lists
+pub mod PathFormLemmas
+pub mod QuickFormLemmas
+pub mod SizeLemmas
+pub mod ToldLemmas
