@@ -159,18 +159,34 @@ fn files_of_world<'a>(worlds: &'a [Value], name: Option<&str>) -> Result<&'a [Va
 pub struct File<'a> {
     pub path: &'a str,
     pub id: &'a str,
-    pub bytes: &'a Value,
+    pub content: Content<'a>,
+}
+
+/// What a file holds: a text, or the bytes that a table says.
+#[derive(Clone, Copy)]
+pub enum Content<'a> {
+    Text(&'a str),
+    Bytes(&'a Value),
 }
 
 impl<'a> File<'a> {
     pub fn of(value: &'a Value) -> Result<File<'a>, Fault> {
-        let row = Row::of(value, &["path", "id", "bytes"])?;
+        let row = Row::of(value, &["path", "id", "text", "bytes"])?;
         let path = row.text("path")?;
         Ok(File {
             path,
             id: row.text_if_any("id")?.unwrap_or(path),
-            bytes: row.value("bytes")?,
+            content: Content::of(&row)?,
         })
+    }
+}
+
+impl<'a> Content<'a> {
+    fn of(row: &Row<'a>) -> Result<Content<'a>, Fault> {
+        match row.text_if_any("text")? {
+            Some(text) => Ok(Content::Text(text)),
+            None => Ok(Content::Bytes(row.value("bytes")?)),
+        }
     }
 }
 

@@ -1,6 +1,6 @@
 //! The tree, the folder and the sink of a case, and the call.
 
-use crate::case::{Case, Failing, File, Files, Method, Written};
+use crate::case::{Case, Content, Failing, File, Files, Method, Written};
 use appdir_cli::{Status, appdir_main};
 use case_files::{HashTables, bytes_of, library_of};
 use case_rows::{Fault, text_of};
@@ -131,11 +131,23 @@ fn add_files(
     for file in files {
         let file = File::of(file)?;
         if !are_texts_with(absent, file.path)? {
-            let bytes = bytes_of(alloc, file.bytes, tables)?;
+            let bytes = content_of(alloc, file.content, tables)?;
             add(alloc, tree, file.path, file.id, bytes.as_slice())?;
         }
     }
     Ok(())
+}
+
+/// The bytes of a file; those of an object with these hash tables.
+pub fn content_of(
+    alloc: Global,
+    content: Content<'_>,
+    tables: HashTables,
+) -> Result<Vec<u8>, Fault> {
+    match content {
+        Content::Text(text) => Ok(Vec::from_slice(alloc, text.as_bytes())?),
+        Content::Bytes(table) => bytes_of(alloc, table, tables),
+    }
 }
 
 /// Whether a text is one of these.

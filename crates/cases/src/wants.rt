@@ -1,9 +1,9 @@
 //! How a case ended, and how it wants to end.
 
 use crate::case::{Case, WantedFile};
-use crate::outside::{Outside, source};
+use crate::outside::{Outside, content_of, source};
 use appdir_cli::{Status, status_name};
-use case_files::{bytes_of, has_pieces};
+use case_files::has_pieces;
 use case_rows::{Fault, decoded};
 use load_model::Name;
 use ports::MemFile;
@@ -122,9 +122,13 @@ fn is_copy(
     path: Option<&str>,
 ) -> Result<bool, Fault> {
     match path {
-        Some(path) => Ok(
-            bytes == bytes_of(alloc, source(&case.files, path)?.bytes, case.tables)?.as_slice(),
-        ),
+        Some(path) => is_source(alloc, case, bytes, path),
         None => Ok(true),
     }
+}
+
+/// Whether bytes are those of the file of the tree at a path.
+fn is_source(alloc: Global, case: &Case<'_>, bytes: &[u8], path: &str) -> Result<bool, Fault> {
+    let content = source(&case.files, path)?.content;
+    Ok(bytes == content_of(alloc, content, case.tables)?.as_slice())
 }
