@@ -13,13 +13,17 @@ use Rattle.load_model.specs.declared.setting.Setting.{Setting}
 use Rattle.host_list.specs.Meeting.{lib_object, look_difference, own_differences, same_file, version_difference}
 use Rattle.host_list.specs.declared.differences.Difference.{Difference}
 use Rattle.host_record.specs.declared.records.Record.{Record}
-use Rattle.host_meeting.specs.declared.found.FoundLib.{FoundLib}
+use Rattle.host_meeting.specs.declared.files.FoundFile.{FoundFile}
 use Rattle.host_meeting.specs.declared.files.LibFile.{LibFile}
+use Rattle.host_meeting.specs.declared.found.FoundLib.{FoundLib}
 
 -- A file that was found, as an object.
 abbrev pub object_at : List Face → FoundLib → Option Object
 object_at faces f =
     option_map (λ face. record { path = f.path; id = f.id; face = face }) (slice_get faces f.face)
+
+abbrev pub object_found : FoundFile → Object
+object_found f = record { path = f.lib.now.path; id = f.lib.now.id; face = f.face.now }
 
 abbrev pub object_of : LibFile → Object
 object_of f = record { path = f.path.now; id = f.id.now; face = f.face.now }

@@ -4,4 +4,5 @@ pub mod LibPlaces
 pub mod Missing
 pub mod Named
 pub mod Reaching
+pub mod Sets
 pub mod Verdicts

@@ -1,20 +1,33 @@
-//! The file of a library of a record on a host.
+//! The files of the libraries of a record on a host.
 
-ghost use Rattle.std.specs.Prelude.{◌≡◌};
-ghost use Rattle.std.specs.List.{list_any};
-ghost use Rattle.std.specs.Str.{bytes_eq};
 ghost use Rattle.load_model.specs.Opening.{IsFew};
+ghost use Rattle.host_meeting.specs.Sets.{IsSetOf};
 
+use crate::found::FoundLib;
 use load_model::{Face, Name};
 use path_text::Abs;
+use text_sets::TextSet;
 
-/// The file of a library: the path that decided, which file it is, and its face.
+/// A file that was found, with its face and the names of the versions that it defines.
+#[derive(Drop)]
+pub struct FoundFile<'a> {
+    pub lib: &'a FoundLib,
+    pub face: &'a Face,
+    pub versions: TextSet,
+    ghost few: { IsFew face.now },
+    ghost defines: { IsSetOf face.now.defs versions },
+}
+
+/// The file of a library: the path that decided, which file it is, its face, and the names of the
+/// versions that it defines, found by their hashes.
 #[derive(Clone, Copy)]
 pub struct LibFile<'a> {
     pub path: &'a Abs,
     pub id: &'a Name,
     pub face: &'a Face,
+    pub versions: &'a TextSet,
     ghost few: { IsFew face.now },
+    ghost defines: { IsSetOf face.now.defs versions.now },
 }
 
 impl<'a> LibFile<'a> {
@@ -26,14 +39,6 @@ impl<'a> LibFile<'a> {
         ensures { result ≡ has_defined version.now self.now.face.now.defs }
     {
         let defs = self.face.defs.as_slice();
-        defs.is_empty() || has_name(defs, version)
+        defs.is_empty() || self.versions.contains(version.as_bytes())
     }
-}
-
-fn has_name(names: &[Name], name: &Name) -> bool
-    ensures { result ≡ list_any (λ n. bytes_eq n name.now) names.now }
-{
-    names
-        .iter()
-        .any(|known| known.as_bytes() == name.as_bytes())
 }

@@ -15,7 +15,7 @@ ghost use Rattle.host_meeting.specs.Verdicts.{IsVerdict, IsWhole, verdict_by, ve
 use crate::asks::own_difference;
 use crate::files::LibFile;
 use crate::finding::find_libs;
-use crate::found::{FoundLib, files_of};
+use crate::found::{FoundLib, files_of, found_files};
 use crate::interps::find_interps;
 use crate::looks::look_difference;
 use crate::misses::Miss;
@@ -127,7 +127,8 @@ fn difference_on<'a>(
         ≡ map (object_at faces.now) found.now
         → difference ≡ difference_of_files face_or_flaw setting world rec.now) }
 {
-    let files = files_of(alloc, faces, found)?;
+    let known = found_files(alloc, faces, found)?;
+    let files = files_of(alloc, known.as_slice())?;
     difference_in(alloc, rec, files.as_slice())
 }
 
