@@ -2,7 +2,7 @@
 use Rattle.std.specs.Prelude.{ℕ, List, ◌∷◌, ◌≡◌, true, ◌==◌, All, IsUtf8, Option, None, Some}
 use Rattle.std.specs.List.{list_any}
 use Rattle.path_text.specs.FileName.{IsFileName}
-use Rattle.path_text.specs.Path.{base_of}
+use Rattle.path_text.specs.Path.{IsNormalPath, base_of}
 use Rattle.path_text.specs.Target.{target_fault}
 use Rattle.app_config.specs.declared.config.Config.{Config}
 use Rattle.app_config.specs.declared.config.Program.{Program}
@@ -38,3 +38,4 @@ pub record IsReady (config : Config) : Type 0 where
   pub opens : All OpensNames (config.main ∷ config.tools)
   pub tools : All IsNamed config.tools
   pub entry : AreTogether config.desktop config.icon
+  pub dirs : All IsNormalPath config.setting.dirs

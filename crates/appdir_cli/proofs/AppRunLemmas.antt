@@ -1,7 +1,8 @@
 -- `AppRun` is the last file that is written, from how a call ends.
 use Rattle.std.proofs.Common.{ℕ, zero, suc, ◌+◌, ◌<◌, arith, List, [], ◌∷◌, ◌++◌, ◌≡◌, ◌∙◌, inl, inr, refl, ap, sym, subst, Option, Some, Result, Ok, codes, length, take}
-use Rattle.std.specs.Prelude.{◌≢◌}
+use Rattle.std.specs.Prelude.{◌≢◌, ◌⊎◌}
 use Rattle.std.specs.Option.{option_map}
+use Rattle.std.proofs.lemmas.Bool.{cases_lt}
 use Rattle.std.proofs.lemmas.List.{length-append, take-append-le, take_all}
 use Rattle.std.proofs.lemmas.List.Elements.{All-nil, All-take}
 use Rattle.std.proofs.lemmas.Slice.Zip.{AllZip-long}
@@ -23,7 +24,7 @@ use Rattle.refusals.specs.declared.refusal.Refusal.{Refusal}
 use Rattle.ports.specs.Folder.{Folder}
 use Rattle.ports.specs.View.{Stays, View}
 use Rattle.ports.specs.declared.folders.MemFile.{MemFile}
-use Rattle.appdir_cli.specs.AppRun.{AreAll, IsAppRunLast, Leaves}
+use Rattle.appdir_cli.specs.AppRun.{AreAll, AtEachMoment, IsAppRunLast, Leaves}
 use Rattle.appdir_cli.specs.Endings.{Ends, EndsFor, IsDone, IsGiven, IsOutcome, IsRefused, Outside}
 use Rattle.appdir_cli.specs.ComesTo.{ComesTo}
 use Rattle.appdir_cli.specs.Packing.{IsPacked, IsPacking}
@@ -146,7 +147,27 @@ module _ (command : Command) (packing : IsPacking command) (before after : Outsi
   leaves NoMemory h = nothing_there h.folder
   leaves PrintFailed h = elim h [ inl p ↦ inl (done_all p.0 p.1) | inr q ↦ inr (refused_none q.0 q.1) ]
 
+-- ---- within a call
+
+all_or_none : (world : World) (command : Command) (files : List MemFile) (status : Status) → Leaves world command files status → AreAll world command files ⊎ HasNoAppRun files
+all_or_none world command files Done h = inl h
+all_or_none world command files Refused h = inr h
+all_or_none world command files Usage h = inr h
+all_or_none world command files ReadFailed h = inr h
+all_or_none world command files WriteFailed h = inr h
+all_or_none world command files NoMemory h = inr h
+all_or_none world command files PrintFailed h = h
+
+at_each_moment : (world : World) (command : Command) (files : List MemFile) → AreAll world command files ⊎ HasNoAppRun files → AtEachMoment world command files
+at_each_moment world command files (inl all) count =
+    elim (cases_lt count (length files)) [
+      | inl less ↦ inr (part_without files count all.app_run less)
+      | inr over ↦ inl (subst (AreAll world command) (sym (take_all count files (omega (arith, over)))) all)
+    ]
+at_each_moment world command files (inr none) count = inr (All-take (λ (file : MemFile). file.path ≢ codes "AppRun") count files none)
+
 pub app_run_last : (asked : Option Command) (before after : Outside) (status : Status) → Ends asked before after status → IsAppRunLast asked before after status
 unfolding IsAppRunLast
 app_run_last asked before after status ends command world held kept is packing told tells empty keeps =
-    leaves command packing before after world held kept told tells empty keeps status (subst (λ (a : Option Command). Ends a before after status) is ends)
+    let left = leaves command packing before after world held kept told tells empty keeps status (subst (λ (a : Option Command). Ends a before after status) is ends) in
+    (left, at_each_moment world command kept.finished (all_or_none world command kept.finished status left))

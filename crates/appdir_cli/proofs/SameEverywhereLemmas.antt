@@ -4,6 +4,7 @@ use Rattle.std.specs.Prelude.{All, IsUtf8, String, option_map}
 use Rattle.std.specs.Global.{Global}
 use Rattle.std.proofs.lemmas.List.Elements.{All-nil, All-cons, All-head, All-tail}
 use Rattle.answers.specs.Told.{WhereTold}
+use Rattle.app_config.proofs.DirectoryLemmas.{default_are_normal}
 use Rattle.app_config.specs.Names.{names_or_default}
 use Rattle.app_config.specs.Ready.{IsNamed, IsNameText, IsReady, OpensNames}
 use Rattle.app_config.specs.declared.config.Config.{Config}
@@ -53,6 +54,7 @@ source_alone words world command asked is bytes =
       names = both IsFileName IsUtf8 (names_or_default command.names) (command_names (texts words) command asked) (command_texts words command asked);
       opens = All-cons (λ (start : Start). All IsNameText start.opens) (start_of (config_of command).main) [] (All-nil IsNameText) (All-nil (λ (start : Start). All IsNameText start.opens));
       tools = All-nil (λ (tool : Program). IsFileName tool.name);
+      dirs = default_are_normal;
     }
 
 starts_opened : (programs : List Program) → All OpensNames programs → All (λ (start : Start). All IsNameText start.opens) (map start_of programs)
@@ -68,6 +70,7 @@ source_read world config ready is bytes =
       names = ready.names;
       opens = starts_opened (config.main ∷ config.tools) ready.opens;
       tools = λ k d less. (ready.tools k d less).0;
+      dirs = ready.dirs;
     }
 
 source : (words : List (String Global)) (world : World) (command : Command) (config : Config) (out : List ℕ) → command_of (texts words) ≡ Some command → IsPackingBy world command config out → IsWorld world → All (λ (f : WorldFile). AreBytes f.bytes) world → IsSource world config

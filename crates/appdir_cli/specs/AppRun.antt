@@ -1,5 +1,5 @@
 -- `AppRun` is the last file that is written, so that a folder that has it has all files.
-use Rattle.std.specs.Prelude.{ℕ, List, [], ◌≡◌, ◌⊎◌, Option, Some, Ok}
+use Rattle.std.specs.Prelude.{ℕ, List, [], ◌≡◌, ◌⊎◌, Option, Some, Ok, take}
 use Rattle.app_config.specs.declared.config.Config.{Config}
 use Rattle.appdir_build.specs.AppRun.{EndsWithAppRun, HasNoAppRun}
 use Rattle.appdir_build.specs.Outcome.{Outcome, Package}
@@ -29,6 +29,12 @@ Leaves world command files Done = AreAll world command files
 Leaves world command files PrintFailed = AreAll world command files ⊎ HasNoAppRun files
 Leaves world command files _ = HasNoAppRun files
 
+-- A folder adds to its finished files behind them alone, so at any moment of a call they are the first
+-- of those at its end: all files are there, or none of them is `AppRun`.
+abbrev pub AtEachMoment : World → Command → List MemFile → Type 0
+AtEachMoment world command files =
+    (count : ℕ) → AreAll world command (take count files) ⊎ HasNoAppRun (take count files)
+
 -- So a call that packs leaves a folder that had no file, where tree and folder tell theirs.
 unfoldable pub IsAppRunLast : Option Command → Outside → Outside → Status → Type 0
 IsAppRunLast asked before after status =
@@ -36,4 +42,4 @@ IsAppRunLast asked before after status =
     → asked ≡ Some command → IsPacking command → before.tree.told ≡ Some world
     → before.folder.told ≡ Some held → held.finished ≡ []
     → after.folder.told ≡ Some kept
-    → Leaves world command kept.finished status
+    → Leaves world command kept.finished status × AtEachMoment world command kept.finished

@@ -12,7 +12,7 @@ use Rattle.command_words.specs.declared.commands.Host.{Host}
 use Rattle.deliveries.specs.declared.status.Status.{Status}
 use Rattle.deliveries.specs.declared.status.Status.TheVariants.{Done}
 use Rattle.load_model.specs.World.{World}
-use Rattle.packed_programs.specs.Everywhere.{LiesAt, RunsOnHost}
+use Rattle.packed_programs.specs.Everywhere.{IsPackedAt, RunsOnHost}
 use Rattle.appdir_cli.specs.Endings.{Outside}
 
 -- A call of `host` that is done, over a tree that tells its world: where the directory of a build
@@ -23,6 +23,6 @@ CheckedHostsRun asked before status =
     (command : Host) (world source : World) (config : Config) (made : Package)
     → asked ≡ Some (AsksHost command) → status ≡ Done → before.tree.told ≡ Some world
     → (ready : IsPackage source config made) → IsSource source config
-    → LiesAt world command.place command.dirs made.files
+    → IsPackedAt world command.place command.dirs made.files
     → (number : ℕ) (start : Start) → slice_get (starts_of config) number ≡ Some start
     → RunsOnHost config ready.building made.files world command.dirs command.place number start

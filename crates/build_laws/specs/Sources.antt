@@ -10,6 +10,7 @@ use Rattle.load_model.specs.Escaping.{AreBytes}
 use Rattle.load_model.specs.World.{IsWorld, World}
 use Rattle.load_model.specs.declared.world.WorldFile.{WorldFile}
 use Rattle.path_text.specs.FileName.{IsFileName}
+use Rattle.path_text.specs.Path.{IsNormalPath}
 
 pub record IsSource (world : World) (config : Config) : Type 0 where
   -- so that objects of one identity are one file, and their paths are texts
@@ -22,3 +23,5 @@ pub record IsSource (world : World) (config : Config) : Type 0 where
   pub opens : All (λ (start : Start). All IsNameText start.opens) (starts_of config)
   -- so that the run paths of programs lead to the folder of libraries
   pub tools : All (λ (tool : Program). IsFileName tool.name) config.tools
+  -- so that a listed directory joined with a name tells which directory it was
+  pub dirs : All IsNormalPath config.setting.dirs

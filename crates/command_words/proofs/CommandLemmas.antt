@@ -76,30 +76,31 @@ gen_named : (words : List (List ℕ)) (gen : Option Gen) → NamesIn words (opti
 gen_named words None command h = absurd (cc)
 gen_named words (Some gen) command h = absurd (cc)
 
-either : (words : List (List ℕ)) (b : Bool) (one other : Option Command) → NamesIn words one → NamesIn words other → NamesIn words (cond b one other)
-either words true one other p q = p
-either words false one other p q = q
+-- what holds of either, holds of the one that is chosen
+pub either : (P : Option Command → Type 0) (b : Bool) (one other : Option Command) → P one → P other → P (cond b one other)
+either P true one other p q = p
+either P false one other p q = q
 
 -- the shapes but the first, from the last on
-abbrev gen_shape : List ℕ → List (List ℕ) → Option Command
+abbrev pub gen_shape : List ℕ → List (List ℕ) → Option Command
 gen_shape verb words = cond (bytes_eq verb (codes "gen")) (gen_asked words) None
 
-abbrev host_shape : List ℕ → List (List ℕ) → Option Command
+abbrev pub host_shape : List ℕ → List (List ℕ) → Option Command
 host_shape verb words = cond (bytes_eq verb (codes "host")) (host_asked words) (gen_shape verb words)
 
-abbrev show_shape : List ℕ → List (List ℕ) → Option Command
+abbrev pub show_shape : List ℕ → List (List ℕ) → Option Command
 show_shape verb words = cond (bytes_eq verb (codes "show")) (show_asked words) (host_shape verb words)
 
-abbrev build_shape : List ℕ → List (List ℕ) → Option Command
+abbrev pub build_shape : List ℕ → List (List ℕ) → Option Command
 build_shape verb words = cond (bytes_eq verb (codes "build")) (build_asked words) (show_shape verb words)
 
 verb_named : (verb : List ℕ) (words : List (List ℕ)) → NamesIn words (cond (bytes_eq verb (codes "quick")) (quick_asked words) (build_shape verb words))
 verb_named verb words =
-    either words (bytes_eq verb (codes "quick")) (quick_asked words) (build_shape verb words) (λ command h. asked_names words (quick_of words) command refl h)
-    (either words (bytes_eq verb (codes "build")) (build_asked words) (show_shape verb words) (build_named words (build_of words))
-    (either words (bytes_eq verb (codes "show")) (show_asked words) (host_shape verb words) (show_named words (show_of words))
-    (either words (bytes_eq verb (codes "host")) (host_asked words) (gen_shape verb words) (host_named words (host_of words))
-    (either words (bytes_eq verb (codes "gen")) (gen_asked words) None (gen_named words (gen_of words)) (none_named words)))))
+    either (NamesIn words) (bytes_eq verb (codes "quick")) (quick_asked words) (build_shape verb words) (λ command h. asked_names words (quick_of words) command refl h)
+    (either (NamesIn words) (bytes_eq verb (codes "build")) (build_asked words) (show_shape verb words) (build_named words (build_of words))
+    (either (NamesIn words) (bytes_eq verb (codes "show")) (show_asked words) (host_shape verb words) (show_named words (show_of words))
+    (either (NamesIn words) (bytes_eq verb (codes "host")) (host_asked words) (gen_shape verb words) (host_named words (host_of words))
+    (either (NamesIn words) (bytes_eq verb (codes "gen")) (gen_asked words) None (gen_named words (gen_of words)) (none_named words)))))
 
 shape_names : (words : List (List ℕ)) → NamesIn words (shape_of words)
 shape_names [] command h = absurd (cc)
@@ -108,7 +109,7 @@ shape_names (verb ∷ words) command h =
     record { files = w.files; texts_too = λ all. w.texts_too (All-tail IsUtf8 verb words all) }
 
 named : (words : List (List ℕ)) → NamesIn words (command_of words)
-named words = either words (list_any is_unshaped words) None (shape_of words) (none_named words) (shape_names words)
+named words = either (NamesIn words) (list_any is_unshaped words) None (shape_of words) (none_named words) (shape_names words)
 
 -- ---- they are file names
 

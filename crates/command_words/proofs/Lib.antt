@@ -3,6 +3,7 @@ pub mod CommandLemmas
 pub mod CountLemmas
 pub mod FlaglessLemmas
 pub mod GenFormLemmas
+pub mod HostPathLemmas
 pub mod Lists
 pub mod PathFormLemmas
 pub mod QuickFormLemmas

@@ -3,21 +3,24 @@ use Rattle.std.proofs.Common.{◌≡◌, ◌∙◌, ap, sym, subst, refl, ℕ, B
 use Rattle.std.specs.Prelude.{Option, None, Some, Result, Ok, Err, All, codes}
 use Rattle.std.proofs.lemmas.List.Elements.{All-cons, All-nil, All-weaker}
 use Rattle.app_config.specs.Names.{default_names}
+use Rattle.app_config.specs.Settings.{default_dirs, setting_of}
+use Rattle.app_config.proofs.DirectoryLemmas.{default_are_normal}
 use Rattle.app_config.specs.Ready.{AreTogether, HasEnding, IsNamed, IsNameText, IsPlaceable, IsReady, OpensNames}
 use Rattle.app_config.specs.declared.config.Config.{Config}
 use Rattle.app_config.specs.declared.config.Program.{Program}
-use Rattle.path_text.specs.Path.{base_of}
+use Rattle.load_model.specs.declared.setting.Setting.{Setting}
+use Rattle.path_text.specs.Path.{IsNormalPath, base_of}
 use Rattle.toml.specs.Data.{Data, Members, get_member}
 use Rattle.config_text.specs.Faults.{then_read, unless}
 use Rattle.config_text.specs.Kinds.{Kind, a_file, a_list, a_name, a_path, desktop_endings, icon_endings, is_file_of, named}
-use Rattle.config_text.specs.Parts.{desktop_of, files_of, icon_of, main_of, name_given, names_of, setting_read, tool_keys, tool_name, tool_of, tools_of}
+use Rattle.config_text.specs.Parts.{desktop_of, dirs_of, files_of, icon_of, main_of, name_given, names_of, setting_read, token_of, tool_keys, tool_name, tool_of, tools_of}
 use Rattle.config_text.specs.Reading.{assembled, carried_of, config_in, config_of, config_read, document_of, parts_of, shown_of, started_of, top_keys, two_targets}
 use Rattle.config_text.specs.Tables.{a_table, optional, required, unknown_fault}
 use Rattle.config_text.specs.declared.faults.ConfigFault.{ConfigFault}
 use Rattle.config_text.specs.declared.reading.Carried.{Carried}
 use Rattle.config_text.specs.declared.reading.Shown.{Shown}
 use Rattle.config_text.specs.declared.reading.Started.{Started}
-use Rattle.config_text.proofs.ReadyLemmas.{Gives, came, default_are, file_gives, file_lies, icon_ends, list_gives, name_gives, named_gives, no_fault, none_are, optional_gives, required_gives, same_value, table_gives}
+use Rattle.config_text.proofs.ReadyLemmas.{Gives, came, default_are, file_gives, file_lies, icon_ends, list_gives, name_gives, named_gives, no_fault, none_are, optional_gives, path_gives, required_gives, same_value, table_gives}
 
 opens_are : (table : Members) (prefix name : List ℕ) (opens : List (List ℕ)) → optional (a_list a_name) [] table prefix name ≡ Ok opens → All (λ n. IsNameText n) opens
 opens_are table prefix name opens h = optional_gives (a_list a_name) (All (λ n. IsNameText n)) [] table prefix name opens none_are (list_gives a_name (λ n. IsNameText n) name_gives) h
@@ -32,6 +35,18 @@ main_opens top main h =
 host_are : (top : Members) (names : List (List ℕ)) → names_of top ≡ Ok names → All (λ n. IsNameText n) names
 unfolding names_of
 host_are top names h = optional_gives (a_list a_name) (All (λ n. IsNameText n)) default_names top [] (codes "host") names default_are (list_gives a_name (λ n. IsNameText n) name_gives) h
+
+dirs_are : (top : Members) (dirs : List (List ℕ)) → dirs_of top ≡ Ok dirs → All IsNormalPath dirs
+unfolding dirs_of
+dirs_are top dirs h = optional_gives (a_list a_path) (All IsNormalPath) default_dirs top [] (codes "directories") dirs default_are_normal (list_gives a_path IsNormalPath path_gives) h
+
+setting_is : (top : Members) (setting : Setting) → setting_read top ≡ Ok setting → All IsNormalPath setting.dirs
+unfolding setting_read
+setting_is top setting h =
+    let a = came (dirs_of top) (λ dirs. then_read (token_of top (codes "lib")) (λ lib. then_read (token_of top (codes "platform")) (λ platform. Ok (record (setting_of dirs) { lib = lib; platform = platform })))) setting h in
+    let b = came (token_of top (codes "lib")) (λ lib. then_read (token_of top (codes "platform")) (λ platform. Ok (record (setting_of a.0) { lib = lib; platform = platform }))) setting a.2 in
+    let d = came (token_of top (codes "platform")) (λ platform. Ok (record (setting_of a.0) { lib = b.0; platform = platform })) setting b.2 in
+    subst (λ (s : Setting). All IsNormalPath s.dirs) (same_value _ setting d.2) (dirs_are top a.0 a.1)
 
 -- ---- tools
 
@@ -63,13 +78,13 @@ tools_are top tools h =
 
 -- ---- the whole
 
-started_is : (top : Members) (s : Started) → started_of top ≡ Ok s → OpensNames s.main × All (λ n. IsNameText n) s.names
+started_is : (top : Members) (s : Started) → started_of top ≡ Ok s → OpensNames s.main × (All (λ n. IsNameText n) s.names × All IsNormalPath s.setting.dirs)
 unfolding started_of
 started_is top s h =
     let a = came (main_of top) (λ main. then_read (names_of top) (λ names. then_read (setting_read top) (λ setting. Ok (record { main = main; names = names; setting = setting })))) s h in
     let b = came (names_of top) (λ names. then_read (setting_read top) (λ setting. Ok (record { main = a.0; names = names; setting = setting }))) s a.2 in
     let d = came (setting_read top) (λ setting. Ok (record { main = a.0; names = b.0; setting = setting })) s b.2 in
-    subst (λ (t : Started). OpensNames t.main × All (λ n. IsNameText n) t.names) (same_value _ s d.2) (main_opens top a.0 a.1, host_are top b.0 b.1)
+    subst (λ (t : Started). OpensNames t.main × (All (λ n. IsNameText n) t.names × All IsNormalPath t.setting.dirs)) (same_value _ s d.2) (main_opens top a.0 a.1, (host_are top b.0 b.1, setting_is top d.0 d.1))
 
 carried_is : (top : Members) (s : Carried) → carried_of top ≡ Ok s → All (λ t. IsTool t) s.tools
 unfolding carried_of
@@ -112,7 +127,7 @@ parts_are top config h =
     let s = started_is top a.0 a.1 in
     let tools = carried_is top b.0 b.1 in
     subst (λ c. IsReady c) (same_value (assembled a.0 b.0 d.0) config e)
-    (record { names = s.1; opens = All-cons OpensNames a.0.main b.0.tools s.0 (opening b.0.tools tools); tools = naming b.0.tools tools; entry = shown_is top d.0 d.1 })
+    (record { names = s.1.0; opens = All-cons OpensNames a.0.main b.0.tools s.0 (opening b.0.tools tools); tools = naming b.0.tools tools; entry = shown_is top d.0 d.1; dirs = s.1.1 })
 
 config_is : (top : Members) (config : Config) → config_of top ≡ Ok config → IsReady config
 unfolding config_of

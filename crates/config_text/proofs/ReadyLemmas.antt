@@ -13,12 +13,14 @@ use Rattle.app_config.specs.Names.{default_names}
 use Rattle.app_config.specs.Ready.{AreTogether, HasEnding, IsNamed, IsNameText, IsPlaceable, OpensNames}
 use Rattle.load_model.proofs.Texts.{text}
 use Rattle.path_text.specs.FileName.{is_file_name_text}
-use Rattle.path_text.specs.Path.{base_of}
+use Rattle.path_text.specs.Path.{IsNormalPath, base_of, path_of}
 use Rattle.path_text.specs.Target.{target_fault}
 use Rattle.path_text.proofs.NameLemmas.{IsFileName-from_test}
+use Rattle.path_text.proofs.PathLemmas.{IsNormalPath-path_of}
+use Rattle.path_text.specs.declared.absolute.PathFault.{PathFault}
 use Rattle.path_text.specs.declared.relative.RelFault.{RelFault}
 use Rattle.toml.specs.Data.{Data, Items, no_items, item, Members, as_array, as_table, get_member}
-use Rattle.config_text.specs.Faults.{then_read, unless}
+use Rattle.config_text.specs.Faults.{or_else, then_read, unless}
 use Rattle.config_text.specs.Kinds.{Kind, a_file, a_list, a_list_in, a_name, a_path, a_text, element_key, elements, icon_endings, desktop_endings, is_ended, is_file_of, is_name_text, named}
 use Rattle.config_text.specs.Tables.{a_table, demanded, given_or, inside, of_table, optional, required, unknown_fault}
 use Rattle.config_text.specs.declared.faults.ConfigFault.{ConfigFault}
@@ -124,6 +126,18 @@ default_are = all_names default_names refl default_ascii
 
 pub none_are : All (λ name. IsNameText name) []
 none_are = All-nil (λ name. IsNameText name)
+
+-- ---- paths
+
+path_in : (fault : ConfigFault) (text path : List ℕ) (read : Result (List ℕ) PathFault) → path_of text ≡ read → or_else read fault ≡ Ok path → IsNormalPath path
+path_in fault text path (Ok found) e h = IsNormalPath-path_of text path (e ∙ ap Ok (same_value found path h))
+path_in fault text path (Err other) e h = absurd (cc)
+
+pub path_gives : Gives a_path IsNormalPath
+unfolding Gives a_path
+path_gives key value path h =
+    let a = came (a_text key value) (λ text. or_else (path_of text) (BadPath key)) path h in
+    path_in (BadPath key) a.0 path (path_of a.0) refl a.2
 
 -- ---- files with an ending
 

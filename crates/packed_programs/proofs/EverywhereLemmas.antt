@@ -37,8 +37,11 @@ use Rattle.moved_runs.specs.Placed.{Item, lib_place}
 use Rattle.moved_runs.specs.Places.{IsItem}
 use Rattle.object_changes.proofs.StandingLemmas.{all_at}
 use Rattle.ports.specs.declared.folders.MemFile.{MemFile}
-use Rattle.packed_programs.specs.Everywhere.{AreImagesKept, IsHostFor, IsOfDirectory, IsOnRecord, IsReadOf, LiesAt, ProgramRuns, RunsOnHost, RunsThere}
+use Rattle.packed_programs.specs.Everywhere.{AreImagesKept, IsHostFor, IsOfDirectory, IsOnRecord, IsPackedAt, IsReadOf, IsSourceWith, ProgramRuns, RunsOnHost, RunsThere}
 use Rattle.packed_programs.proofs.MachineLemmas.{record_machine_of}
+use Rattle.packed_programs.proofs.SourceLemmas.{met_with}
+use Rattle.packed_programs.proofs.SpokenLemmas.{speaks_of_names}
+use Rattle.path_text.specs.Path.{IsNormalPath}
 use Rattle.read_records.proofs.FileLemmas.{bytes_are}
 
 -- ---- what is opened
@@ -150,12 +153,28 @@ module _ (world : World) (config : Config) (made : Package) (ready : IsPackage w
   home_of host setting place on =
       let is : on.demands ≡ record_in ready.building = again on.read.file on.read.among on.read.lies on.demands on.read.says in
       record {
-        place_normal = on.lies.place_normal;
-        dirs_normal = on.lies.dirs_normal;
+        place_normal = on.place_normal;
+        dirs_normal = on.dirs_normal;
         machine = on.machine;
         placed = on.lies.placed;
         apart = on.lies.apart;
         meets = subst (HostMeets face_or_flaw setting host) is on.meets;
+      }
+
+  -- the world of the build meets the record, also with the directory in it
+  pub source_home : (host : World) (place : List ℕ) → IsSourceWith host config world place made.files → IsHome host config ready.building config.setting place made.files
+  source_home host place on =
+      let first = program_of world config made ready 0 (start_of config.main) refl in
+      let here = run_in world config made 0 (start_of config.main) first.0 first.1 ready from first.2 in
+      let speaks = speaks_of_names world config ready.building (start_of config.main) first.0 first.1 here in
+      record {
+        place_normal = on.place_normal;
+        dirs_normal = from.dirs;
+        machine = refl;
+        placed = on.lies.placed;
+        apart = on.lies.apart;
+        meets = subst (λ w. HostMeets face_or_flaw config.setting w (record_in ready.building)) (sym on.world_is)
+            (met_with world on.added place config.setting (record_in ready.building) speaks on.place_normal from.dirs on.lies.apart on.at_place ready.meets);
       }
 
   pub program_runs : (number : ℕ) (start : Start) → slice_get (starts_of config) number ≡ Some start → ProgramRuns world config ready.building made.files number start
@@ -167,6 +186,7 @@ module _ (world : World) (config : Config) (made : Package) (ready : IsPackage w
         is = p.2;
         plays = (run_in world config made number start p.0 p.1 ready from p.2).plays;
         there = λ host setting place on. runs_there world config made number start p.0 p.1 ready from p.2 host setting place (home_of host setting place on);
+        beside = λ host place on. runs_there world config made number start p.0 p.1 ready from p.2 host config.setting place (source_home host place on);
       }
 
   pub images_kept : AreImagesKept world ready.building
@@ -177,7 +197,7 @@ module _ (world : World) (config : Config) (made : Package) (ready : IsPackage w
 
   -- ---- a host that was checked
 
-  module _ (host : World) (place : List ℕ) (dirs : List (List ℕ)) (lies : LiesAt host place dirs made.files) (meets : MeetsRecord host place dirs) (record_file : Contains (map (λ (file : MemFile). file.path) made.files) record_place) where
+  module _ (host : World) (place : List ℕ) (dirs : List (List ℕ)) (normal : IsNormalPath place) (paths : All IsNormalPath dirs) (lies : IsPackedAt host place dirs made.files) (meets : MeetsRecord host place dirs) (record_file : Contains (map (λ (file : MemFile). file.path) made.files) record_place) where
     -- the file of the record that lies there has the bytes of that of the package
     demanded : meets.demands ≡ record_in ready.building
     demanded =
@@ -201,8 +221,8 @@ module _ (world : World) (config : Config) (made : Package) (ready : IsPackage w
     checked_home =
         let first = program_of world config made ready 0 (start_of config.main) refl in
         record {
-          place_normal = lies.place_normal;
-          dirs_normal = lies.dirs_normal;
+          place_normal = normal;
+          dirs_normal = paths;
           machine = record_machine_of world config ready.building (start_of config.main) first.0 first.1 (run_in world config made 0 (start_of config.main) first.0 first.1 ready from first.2);
           placed = lies.placed;
           apart = lies.apart;

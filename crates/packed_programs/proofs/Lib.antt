@@ -1,2 +1,4 @@
 mod MachineLemmas
+mod SourceLemmas
+mod SpokenLemmas
 pub mod EverywhereLemmas

@@ -1,5 +1,5 @@
--- The programs of a directory run at every place of every host that meets the record in the directory
--- as they run where they were packed.
+-- The programs of a directory run at every place of every host that meets the record in the directory,
+-- and at every free place of the machine where they were packed, as they run there.
 use Rattle.std.specs.Prelude.{ℕ, List, ◌++◌, ◌≡◌, ◌≢◌, ◌⊎◌, All, Some, true, map, slice_get}
 use Rattle.std.specs.List.{Contains}
 use Rattle.app_config.specs.declared.config.Config.{Config}
@@ -46,12 +46,8 @@ AreApartFrom place dirs =
 
 -- The directory of these files lies at a place of a world in which libraries are looked for in these
 -- directories.
-pub record LiesAt (world : World) (place : List ℕ) (dirs : List (List ℕ)) (files : List MemFile)
+pub record IsPackedAt (world : World) (place : List ℕ) (dirs : List (List ℕ)) (files : List MemFile)
     : Type 0 where
-  -- every absolute place: a path in normal form, which may have colons, spaces and `$` in it
-  pub place_normal : IsNormalPath place
-  -- the directories that the host's loader is set to; they need not be those of the build
-  pub dirs_normal : All IsNormalPath dirs
   -- the files of the directory lie at the place, each a file of its own, and nothing else does
   pub placed : IsPlaced world place (as_items files)
   -- no listed directory is the place or lies under it
@@ -67,13 +63,30 @@ pub record IsReadOf (files : List MemFile) (r : Record) : Type 0 where
 -- The premises on a host, on a place, and on the loader's setting there.
 pub record IsHostFor (host : World) (config : Config) (setting : Setting) (place : List ℕ)
     (files : List MemFile) : Type 0 where
-  pub lies : LiesAt host place setting.dirs files
+  -- every absolute place: a path in normal form, which may have colons, spaces and `$` in it
+  pub place_normal : IsNormalPath place
+  -- the directories that the host's loader is set to; they need not be those of the build
+  pub dirs_normal : All IsNormalPath setting.dirs
+  pub lies : IsPackedAt host place setting.dirs files
   -- the loader is for the machine of the build; it has no preload and no library path
   pub machine : setting.machine ≡ config.setting.machine
   -- the host meets the record that is read from the written `host.txt`
   pub demands : Record
   pub read : IsReadOf files demands
   pub meets : HostMeets face_or_flaw setting host demands
+
+-- The world in which a program was packed, with the directory at a place of it. No demand is made of
+-- this world as a host.
+pub record IsSourceWith (world : World) (config : Config) (source : World) (place : List ℕ)
+    (files : List MemFile) : Type 0 where
+  -- the files of the source, and others at the place alone
+  pub added : World
+  pub world_is : world ≡ source ++ added
+  pub at_place : (file : WorldFile) → Contains added file → IsUnder place file.path
+  -- every absolute place, as above
+  pub place_normal : IsNormalPath place
+  -- the listed directories are those of the build
+  pub lies : IsPackedAt world place config.setting.dirs files
 
 -- ---- what a loader does there
 
@@ -111,7 +124,7 @@ pub record RunsThere (config : Config) (b : Building) (files : List MemFile) (ho
       start.opens b.faces (replay_in b.faces run)
 
 -- A program of a build, by its number: it has a run where it was packed and a file in the directory,
--- and it runs the same at every place of every host that meets the record.
+-- and it runs the same at every place of every host that meets the record, and beside its original.
 pub record ProgramRuns (world : World) (config : Config) (b : Building) (files : List MemFile)
     (number : ℕ) (start : Start) : Type 0 where
   pub run : Run
@@ -122,6 +135,9 @@ pub record ProgramRuns (world : World) (config : Config) (b : Building) (files :
   pub there : (host : World) (setting : Setting) (place : List ℕ)
       → IsHostFor host config setting place files
       → RunsThere config b files host setting place start run path
+  -- where it was packed, at every place, under the build's own setting
+  pub beside : (host : World) (place : List ℕ) → IsSourceWith host config world place files
+      → RunsThere config b files host config.setting place start run path
 
 -- The same on one host, with the setting that the record and the directories give.
 pub record RunsOnHost (config : Config) (b : Building) (files : List MemFile) (host : World)

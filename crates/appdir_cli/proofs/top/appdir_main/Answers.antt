@@ -21,7 +21,7 @@ returns-clause-same_everywhere g c =
 
 pub returns-clause-checked_hosts : goal.returns-clause-checked_hosts
 returns-clause-checked_hosts g c =
-    checked_hosts_run c.checked_hosts_run_packed_programs.ensures (command_of (texts c.args.words.now)) (outside (g.T.Tree.seen c.args.tree.now) (g.O.OutDir.seen c.args.out.now) (g.S.Sink.seen c.args.sink.now)) (outside (g.T.Tree.seen c.attend.new.tree) (g.O.OutDir.seen c.attend.new.out) (g.S.Sink.seen c.attend.new.sink)) c.attend.result c.attend.ensures.ending
+    checked_hosts_run c.checked_hosts_run_packed_programs.ensures (texts c.args.words.now) (outside (g.T.Tree.seen c.args.tree.now) (g.O.OutDir.seen c.args.out.now) (g.S.Sink.seen c.args.sink.now)) (outside (g.T.Tree.seen c.attend.new.tree) (g.O.OutDir.seen c.attend.new.out) (g.S.Sink.seen c.attend.new.sink)) c.attend.result c.attend.ensures.ending
 
 pub returns-clause-two_worlds : goal.returns-clause-two_worlds
 returns-clause-two_worlds g c world told = runs_alike (texts c.args.words.now) world
